@@ -3,7 +3,7 @@ use Rattle.std.proofs.Common.{◌≡◌, ◌≢◌, ◌⊎◌, inl, inr, ⊎_eli
 use Rattle.std.specs.Prelude.{nat_le, is_some, option_map, if◌then◌else◌, IfSome}
 use Rattle.ucon_disk.specs.Causes.{raised}
 use Rattle.ucon_disk.specs.Disk.{Only}
-use Rattle.ucon_disk.specs.Run.{LeavesAfter, LeavesOnly, joined, weaker}
+use Rattle.ucon_disk.specs.Run.{LeavesFrom, LeavesOnly, joined, weaker}
 use Rattle.ucon_disk.specs.Seen.{DiskSeen}
 use Rattle.ucon_journal.specs.declared.fault.OpenFault.{OpenFault}
 use Rattle.ucon_journal.specs.declared.fault.OpenFault.TheVariants as opening
@@ -131,11 +131,12 @@ refused_before (faults.NoMemory e) text o before now h = h
 module _ {D : Type 0} (seen : D → DiskSeen) (disk mid end : D) where
   -- opened, and then only read
   pub only_read : (seen mid).contents ≡ option_map opened (seen disk).contents → Only (seen mid).contents (seen mid).images
-      → LeavesAfter (seen disk) (seen mid) Untouched → LeavesOnly (seen mid) (seen end) (seen mid).images → LeavesAfter (seen disk) (seen end) Untouched
+      → LeavesFrom (seen disk) (seen mid) Untouched → LeavesOnly (seen mid) (seen end) (seen mid).images → LeavesFrom (seen disk) (seen end) Untouched
   only_read bytes only first reading = record {
-    each = λ file rest.
-        let is : (seen mid).contents ≡ Some (opened file) = bytes ∙ ap (option_map opened) rest.told in
-        joined (seen disk) (seen mid) (seen end) (Untouched file) (first.each file rest)
-        (weaker (seen mid) (seen end) (seen mid).images (Untouched file)
-        (λ c image. untouched_opened file c (subst (λ (o : Option Bytes). Only o (seen mid).images) is only c image)) reading);
+    each = λ file told.
+        let is : (seen mid).contents ≡ Some (opened file) = bytes ∙ ap (option_map opened) told in
+        let Old : Bytes → Type 0 = λ c. (seen disk).images c ⊎ Untouched file c in
+        joined (seen disk) (seen mid) (seen end) Old (first.each file told)
+        (weaker (seen mid) (seen end) (seen mid).images Old
+        (λ c image. inr (untouched_opened file c (subst (λ (o : Option Bytes). Only o (seen mid).images) is only c image))) reading);
   }

@@ -5,7 +5,7 @@ ghost use Rattle.ucon_audit.specs.Audited.{IsAuditOf, IsPrinted, audit_spelling}
 ghost use Rattle.ucon_audit.specs.Refusing.{IsRefused};
 ghost use Rattle.ucon_audit.specs.Report.{line_of, tree};
 ghost use Rattle.ucon_disk.specs.Disk.{Only};
-ghost use Rattle.ucon_disk.specs.Run.{LeavesAfter};
+ghost use Rattle.ucon_disk.specs.Run.{LeavesFrom};
 ghost use Rattle.ucon_engine.specs.Engine.{IsIdle};
 ghost use Rattle.ucon_journal.specs.Opened.{Untouched, opened};
 ghost use Rattle.ucon_model.specs.History.{History, trace};
@@ -54,11 +54,11 @@ pub fn audit<E: Engine, D: Disk>(
     ensures idle { IfOk result (λ r. IsIdle E.follows r.0.engine) }
     ensures bytes { IfOk result (λ r. (D.seen r.1).contents ≡ option_map opened (D.seen disk).contents) }
     ensures at_rest { IfOk result (λ r. Only (D.seen r.1).contents (D.seen r.1).images) }
-    ensures images { IfOk result (λ r. LeavesAfter (D.seen disk) (D.seen r.1) Untouched) }
+    ensures images { IfOk result (λ r. LeavesFrom (D.seen disk) (D.seen r.1) Untouched) }
     ensures unfailed { IfOk result (λ r. (D.seen r.1).faults ≡ (D.seen disk).faults) }
     ensures refused { IfErr result (λ e. IsRefused e.1 policy.now (D.seen disk).contents (D.seen disk).faults (D.seen e.0).faults) }
     ensures bytes_err { IfErr result (λ e. e.1 ≢ StoreFault.DiskFault → IfSome (D.seen disk).contents (λ file. (D.seen e.0).contents ≡ Some (opened file))) }
-    ensures images_err { IfErr result (λ e. LeavesAfter (D.seen disk) (D.seen e.0) Untouched) }
+    ensures images_err { IfErr result (λ e. LeavesFrom (D.seen disk) (D.seen e.0) Untouched) }
 {
     let mut journal = match Journal::open(alloc, disk) {
         Ok(journal) => journal,
@@ -117,11 +117,11 @@ pub fn audit_text<E: Engine, D: Disk, R: Threads + Sync>(
     ensures printed { IfOk result (λ r. IfSome (D.seen disk).contents (IsPrinted policy.now (λ P H file. r.0.items ≡ audit_spelling kept (opened file) P H))) }
     ensures bytes { IfOk result (λ r. (D.seen r.1).contents ≡ option_map opened (D.seen disk).contents) }
     ensures at_rest { IfOk result (λ r. Only (D.seen r.1).contents (D.seen r.1).images) }
-    ensures images { IfOk result (λ r. LeavesAfter (D.seen disk) (D.seen r.1) Untouched) }
+    ensures images { IfOk result (λ r. LeavesFrom (D.seen disk) (D.seen r.1) Untouched) }
     ensures unfailed { IfOk result (λ r. (D.seen r.1).faults ≡ (D.seen disk).faults) }
     ensures refused { IfErr result (λ e. IsRefused e.1 policy.now (D.seen disk).contents (D.seen disk).faults (D.seen e.0).faults) }
     ensures bytes_err { IfErr result (λ e. e.1 ≢ StoreFault.DiskFault → IfSome (D.seen disk).contents (λ file. (D.seen e.0).contents ≡ Some (opened file))) }
-    ensures images_err { IfErr result (λ e. LeavesAfter (D.seen disk) (D.seen e.0) Untouched) }
+    ensures images_err { IfErr result (λ e. LeavesFrom (D.seen disk) (D.seen e.0) Untouched) }
 {
     let (audited, disk) = match audit::<E, D>(alloc, policy, kept, disk) {
         Ok(r) => r,
@@ -143,11 +143,11 @@ pub fn report_text<E: Engine, D: Disk>(
     ensures printed { IfOk result (λ r. IfSome (D.seen disk).contents (IsPrinted policy.now (λ P H file. r.0.items ≡ line_of (tree P H)))) }
     ensures bytes { IfOk result (λ r. (D.seen r.1).contents ≡ option_map opened (D.seen disk).contents) }
     ensures at_rest { IfOk result (λ r. Only (D.seen r.1).contents (D.seen r.1).images) }
-    ensures images { IfOk result (λ r. LeavesAfter (D.seen disk) (D.seen r.1) Untouched) }
+    ensures images { IfOk result (λ r. LeavesFrom (D.seen disk) (D.seen r.1) Untouched) }
     ensures unfailed { IfOk result (λ r. (D.seen r.1).faults ≡ (D.seen disk).faults) }
     ensures refused { IfErr result (λ e. IsRefused e.1 policy.now (D.seen disk).contents (D.seen disk).faults (D.seen e.0).faults) }
     ensures bytes_err { IfErr result (λ e. e.1 ≢ StoreFault.DiskFault → IfSome (D.seen disk).contents (λ file. (D.seen e.0).contents ≡ Some (opened file))) }
-    ensures images_err { IfErr result (λ e. LeavesAfter (D.seen disk) (D.seen e.0) Untouched) }
+    ensures images_err { IfErr result (λ e. LeavesFrom (D.seen disk) (D.seen e.0) Untouched) }
 {
     let (audited, disk) = match audit::<E, D>(alloc, policy, None, disk) {
         Ok(r) => r,

@@ -1,12 +1,14 @@
 -- Lines that were answered over a store by a legal run, and the output of their answers.
-use Rattle.std.proofs.Common.{◌≡◌, Bool, true, false, List, [], ◌∷◌, map, refl, sym, ap, ◌∙◌, inl}
+use Rattle.std.proofs.Common.{◌≡◌, ℕ, Bool, true, false, List, [], ◌∷◌, map, refl, sym, ap, ◌∙◌, inl}
 use Rattle.std.specs.Prelude.{◌<◌, ◌||◌, IsTrue, Option, Some, None, if◌then◌else◌, ⊤}
 use Rattle.std.specs.Option.{option_to_list}
 use Rattle.std.specs.List.{filter, list_any}
-use Rattle.std.proofs.lemmas.Bool.{false_from_ne_true, or_parts}
+use Rattle.std.specs.Bool.{OnFalse}
+use Rattle.std.proofs.lemmas.Bool.{OnFalse_from, false_from_ne_true, or_parts}
 use Rattle.ucon_base.specs.Elements.{Each, each_map}
 use Rattle.ucon_model.specs.declared.command.Caller.{Caller}
 use Rattle.ucon_model.specs.declared.command.Entry.{Entry}
+use Rattle.ucon_model.specs.Action.{Trace}
 use Rattle.ucon_model.specs.Plain.{Bytes, PlainPolicy}
 use Rattle.ucon_model.specs.Output.{FitsLine, answers_read, output}
 use Rattle.ucon_model.specs.History.{History}
@@ -14,9 +16,12 @@ use Rattle.ucon_model.specs.LegalRun.{Answered, no_memory, Saw, StaysStopped, Ar
 use Rattle.ucon_model.specs.StoredRun.{LeadsTo, failed_line}
 use Rattle.ucon_store.specs.Kept.{Kept}
 use Rattle.ucon_store.specs.Marks.{marked}
+use Rattle.ucon_store.specs.Starts.{IsStart}
+use Rattle.ucon_store.specs.Whole.{IsFront, trace_behind, whole}
 use Rattle.ucon_client.specs.Clients.{faulted}
 use Rattle.ucon_trial.specs.Runs.{IsUnfaulted}
-use Rattle.ucon_top.specs.Stepping.{AreAnswered, HaveOutput, HaveSteps, IsRunBetween}
+use Rattle.ucon_top.specs.Serial.{AreSerialAfter}
+use Rattle.ucon_top.specs.Stepping.{AreAnswered, AreAnsweredAfter, HaveOutput, HaveSteps, IsRunBetween, entries_of_all}
 
 -- what the laws of runs over a store say
 pub record AreLegal : Type 0 where
@@ -41,6 +46,14 @@ lines_wanting : (lines : List Entry) → map (λ (t : Answered). t.line) (map wa
 lines_wanting [] = refl
 lines_wanting (e ∷ lines) = ap (λ (es : List Entry). e ∷ es) (lines_wanting lines)
 
+serial_wanting : (P : PlainPolicy) (T : Trace) (n : ℕ) (lines : List Entry) → AreSerialAfter P T n (map wants_memory lines)
+serial_wanting P T n [] = tt
+serial_wanting P T n (e ∷ lines) = inl (tt, serial_wanting P T n lines)
+
+none_failed : (lines : List Entry) → failed_line (map wants_memory lines) ≡ None
+none_failed [] = refl
+none_failed (e ∷ lines) = none_failed lines
+
 leads_nowhere : (P : PlainPolicy) (H : History) (lines : List Entry) → LeadsTo P H (map wants_memory lines) H None
 leads_nowhere P H [] = (refl, refl)
 leads_nowhere P H (e ∷ lines) = inl (tt, leads_nowhere P H lines)
@@ -55,24 +68,34 @@ module _ {D : Type 0} (laws : AreLegal) (P : PlainPolicy) where
   }
 
   -- where there is no room for the answers, there was no memory for any line
-  pub unanswered : (sees : Caller → Caller → Bool) (store : Kept D) (lines : List Entry) → store.mark ≡ None → AreAnswered sees P store store lines (λ told. ⊤)
-  unanswered sees store lines none =
+  unanswered_run : (sees : Caller → Caller → Bool) (store : Kept D) (lines : List Entry) → store.mark ≡ None
+      → IsRunBetween sees P store store (map wants_memory lines)
+  unanswered_run sees store lines none =
       let run = leads_nowhere P store.entries lines in
       let legal = laws.legal P store.entries (map wants_memory lines) store.entries None run in record {
-        told = map wants_memory lines;
-        lines_are = lines_wanting lines;
-        run = record {
-          legal = record {
-            places = legal.places;
-            replies = legal.replies;
-            order = fewer_seen sees (map wants_memory lines) legal.order;
-            causes = legal.causes;
-          };
-          made = laws.made P store.entries (map wants_memory lines) store.entries None run;
-          failed = none ∙ ap marked (sym (laws.failed P store.entries (map wants_memory lines) store.entries None run));
+        legal = record {
+          places = legal.places;
+          replies = legal.replies;
+          order = fewer_seen sees (map wants_memory lines) legal.order;
+          causes = legal.causes;
         };
-        is_so = tt;
+        made = laws.made P store.entries (map wants_memory lines) store.entries None run;
+        failed = none ∙ ap marked (sym (laws.failed P store.entries (map wants_memory lines) store.entries None run));
       }
+
+  pub unanswered : (sees : Caller → Caller → Bool) (threads : Bool) (store : Kept D) (lines : List Entry) → store.mark ≡ None
+      → AreAnswered sees threads P store store lines (λ told. ⊤)
+  unanswered sees threads store lines none = record {
+    told = map wants_memory lines;
+    lines_are = lines_wanting lines;
+    serial = OnFalse_from threads ((T : Trace) → IsStart P store.point store.before T → AreAnsweredAfter P T store store (map wants_memory lines))
+        (λ _ T starts. record {
+          serial = serial_wanting P (trace_behind P T store) (entries_of_all store) lines;
+          mark = none ∙ ap marked (sym (none_failed lines));
+        });
+    run = λ G front. unanswered_run sees (whole G store) lines none;
+    is_so = tt;
+  }
 
 -- ---- where no line met a disk fault, none was stopped
 
@@ -102,21 +125,24 @@ abbrev pub AreReadBack : Type 0
 AreReadBack = (told : List Answered) → Each (λ t. FitsLine t.answer) told → Each (λ t. t.line.caller.0 < 256) told
     → answers_read (map (λ t. t.line) told) (output told) ≡ Some told
 
-module _ {D : Type 0} (sees : Caller → Caller → Bool) (P : PlainPolicy) (old new : Kept D) (lines : List Entry) (told : List Answered)
-    (lines_are : map (λ (t : Answered). t.line) told ≡ lines) (run : IsRunBetween sees P old new told) where
+module _ {D : Type 0} (sees : Caller → Caller → Bool) (threads : Bool) (P : PlainPolicy) (old new : Kept D) (lines : List Entry) (told : List Answered)
+    (lines_are : map (λ (t : Answered). t.line) told ≡ lines)
+    (serial : OnFalse threads ((T : Trace) → IsStart P old.point old.before T → AreAnsweredAfter P T old new told))
+    (run : (G : History) → IsFront P old G → IsRunBetween sees P (whole G old) (whole G new) told) where
   -- the output of answers is read back
   pub text_read : AreReadBack → (text : Bytes) → text ≡ output told → Each (λ t. FitsLine t.answer) told → Each (λ t. t.line.caller.0 < 256) told
-      → AreAnswered sees P old new lines (HaveOutput (λ out. out ≡ text) lines)
+      → AreAnswered sees threads P old new lines (HaveOutput (λ out. out ≡ text) lines)
   text_read back text is fits clients = record {
     told = told;
     lines_are = lines_are;
+    serial = serial;
     run = run;
     is_so = (ap (λ (es : List Entry). answers_read es (output told)) (sym lines_are) ∙ back told fits clients, sym is);
   }
 
   -- answers that are not written
-  pub untold : AreAnswered sees P old new lines (λ told. ⊤)
-  untold = record { told = told; lines_are = lines_are; run = run; is_so = tt }
+  pub untold : AreAnswered sees threads P old new lines (λ told. ⊤)
+  untold = record { told = told; lines_are = lines_are; serial = serial; run = run; is_so = tt }
 
 -- ---- the line that failed
 

@@ -4,7 +4,7 @@ use Rattle.std.specs.Prelude.{nat_le, is_some, option_map, if◌then◌else◌, 
 use Rattle.ucon_audit.specs.Audited.{IsPrinted}
 use Rattle.ucon_audit.specs.Refusing.{IsRefused}
 use Rattle.ucon_disk.specs.Disk.{Only}
-use Rattle.ucon_disk.specs.Run.{LeavesAfter, weaker}
+use Rattle.ucon_disk.specs.Run.{LeavesFrom, then_from, weaker}
 use Rattle.ucon_disk.specs.Seen.{DiskSeen}
 use Rattle.ucon_journal.specs.Found as journal
 use Rattle.ucon_journal.specs.JournalBytes.{journal_bytes, newest, records}
@@ -19,7 +19,7 @@ use Rattle.ucon_store.specs.Found.{IsFoundAs, Tells, finding_of, found, found_by
 use Rattle.ucon_store.specs.Points.{has_points, places_in, point_places, takes_with}
 use Rattle.ucon_top.specs.Accepted.{HasSomePolicy}
 use Rattle.ucon_top.specs.OwnReading.{Checks, IsCheckedState, IsStillFound, IsUnchecked}
-use Rattle.ucon_top.specs.Telling.{HasItsPoints}
+use Rattle.ucon_top.specs.Pointed.{HasItsPoints}
 
 true_or_false : (b : Bool) → (b ≡ true) ⊎ (b ≡ false)
 true_or_false true = inl refl
@@ -82,14 +82,22 @@ untouched_checks text file c untouched = ⊎_elim
     })
     untouched
 
-module _ (text : Bytes) (old new : DiskSeen) (kept : LeavesAfter old new Untouched) where
-  still_unchecked : LeavesAfter old new (Checks text)
-  still_unchecked = record { each = λ file rest. weaker old new (Untouched file) (Checks text file) (untouched_checks text file) (kept.each file rest) }
+untouched_places : (file c : Bytes) → Untouched file c → HasItsPoints file c
+untouched_places file c untouched = ⊎_elim
+    (λ (is : c ≡ file). ap point_places is)
+    (λ (short : (length file ≤ 9) × (length c ≤ 9)).
+    short_places c (at_most (length c) short.1) ∙ sym (short_places file (at_most (length file) short.0)))
+    untouched
+
+module _ (text : Bytes) (old new : DiskSeen) (kept : LeavesFrom old new Untouched) where
+  still_unchecked : LeavesFrom old new (Checks text)
+  still_unchecked = then_from old new Untouched (Checks text) (untouched_checks text) kept
 
   still_checked : (file : Bytes) (opening : History) → old.contents ≡ Some file → IsFoundAs text file opening
-      → new.contents ≡ option_map opened old.contents → Only new.contents new.images → IsStillFound text file opening old new HasItsPoints
+      → new.contents ≡ option_map opened old.contents → Only new.contents new.images → IsStillFound text file opening old new HasItsPoints HasItsPoints
   still_checked file opening told found_there as_it_was at_rest = record {
-    since = λ rest. weaker old new (Untouched file) (λ c. IsFoundAs text c opening) (λ c u. (untouched_checks text file c u).same opening found_there) (kept.each file rest);
+    since = weaker old new (λ c. old.images c ⊎ Untouched file c) (λ c. old.images c ⊎ (IsFoundAs text c opening × HasItsPoints file c))
+        (λ c. ⊎_elim inl (λ u. inr ((untouched_checks text file c u).same opening found_there, untouched_places file c u))) (kept.each file told);
     now = λ c image.
         let there : new.contents ≡ Some (opened file) = as_it_was ∙ ap (option_map opened) told in
         let only : Only (Some (opened file)) new.images = subst (λ (o : Option Bytes). Only o new.images) there at_rest in
@@ -108,7 +116,7 @@ if_so (Some file) each h = each file h
 pub checked_state : (bytes part : Bytes) (some : HasSomePolicy bytes) → part ≡ policy_part bytes → (old new : DiskSeen)
     → (so more : PlainPolicy → History → Bytes → Type 0) → ((P : PlainPolicy) (H : History) (file : Bytes) → so P H file → more P H file)
     → IfSome old.contents (IsPrinted part so) → new.contents ≡ option_map opened old.contents → Only new.contents new.images
-    → LeavesAfter old new Untouched → IsCheckedState bytes old new more
+    → LeavesFrom old new Untouched → IsCheckedState bytes old new more
 checked_state bytes part some is old new so more each printed as_it_was at_rest kept = record {
   policy = some.policy;
   has_policy = some.has_policy;
@@ -124,7 +132,7 @@ checked_state bytes part some is old new so more each printed as_it_was at_rest 
 pub unchecked_state : (text part : Bytes) → part ≡ text → (fault : StoreFault) (old new : DiskSeen)
     → IsRefused fault part old.contents old.faults new.faults
     → (fault ≢ stores.DiskFault → IfSome old.contents (λ file. new.contents ≡ Some (opened file)))
-    → LeavesAfter old new Untouched → IsUnchecked fault text old new
+    → LeavesFrom old new Untouched → IsUnchecked fault text old new
 unchecked_state text part is fault old new refused as_it_was kept = record {
   reason = subst (λ (t : Bytes). IsRefused fault t old.contents old.faults new.faults) is refused;
   as_it_was = as_it_was;

@@ -1,20 +1,10 @@
--- The forms that ask for threads, and words that are none.
-use Rattle.std.proofs.Common.{◌≡◌, ◌<◌, ◌≤◌, List, [], ◌∷◌, length, map, true, refl, arith}
-use Rattle.std.specs.Prelude.{Option, Some, None, String, string_bytes}
-use Rattle.ucon_model.specs.LegalRun.{own_answers}
+-- Words that are no form.
+use Rattle.std.proofs.Common.{◌≡◌, ◌<◌, ◌≤◌, List, [], ◌∷◌, length, map, refl, arith}
+use Rattle.std.specs.Prelude.{None, String, string_bytes}
 use Rattle.ucon_model.specs.Plain.{Bytes}
-use Rattle.ucon_client.specs.Dividing.{by_client}
-use Rattle.ucon_top.specs.declared.form.Form.{Form}
-use Rattle.ucon_top.specs.declared.form.Form.TheVariants.{Serve, Board}
-use Rattle.ucon_top.specs.Form.{asks_for_threads, form_of, output_order, sees_by}
+use Rattle.ucon_top.specs.Form.{form_of}
 
--- a form whose clients run in threads shows each its own answers, and writes them client by client
-pub threads_by_client : (form : Form) → asks_for_threads (Some form) ≡ true → (sees_by form ≡ own_answers) × (output_order form ≡ by_client)
-threads_by_client Serve e = (refl, refl)
-threads_by_client Board e = (refl, refl)
-threads_by_client form e = absurd (cc e)
-
--- ---- words of no form: none, or more than five
+-- none, or more than five
 
 module _ {A : Type 0} where
   abbrev bytes_of : List (String A) → List Bytes

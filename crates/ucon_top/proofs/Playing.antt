@@ -1,56 +1,159 @@
 -- From the opening of a journal to its closing: what was played over it.
-use Rattle.std.proofs.Common.{Bool, ⊎_elim, ◌≡◌, ◌⊎◌, ℕ, ◌+◌, true, false, List, [], ◌∷◌, ◌++◌, length, refl, sym, ap, subst, ◌∙◌, inl, inr, arith}
+use Rattle.std.proofs.Common.{Bool, ⊎_elim, ◌≡◌, ◌⊎◌, ◌↔◌, ℕ, ◌+◌, ◌<◌, ◌≤◌, true, false, List, [], ◌∷◌, ◌++◌, length, length-append, refl, sym, ap, subst, ◌∙◌, inl, inr, arith}
 use Rattle.std.specs.Prelude.{Option, Some, None, Ok, is_some, IsSome, IfSome, ⊤}
+use Rattle.std.specs.Bool.{OnFalse}
 use Rattle.std.specs.Io.KnownBytes.{Appends}
 use Rattle.ucon_flow.specs.Writing.{AppendsPrefix}
 use Rattle.ucon_disk.specs.Causes.{raised}
-use Rattle.ucon_disk.specs.Run.{IsAtRest, LeavesAfter, LeavesOnly, joined, weaker}
-use Rattle.ucon_turn.specs.Lists.{begins_refl}
+use Rattle.ucon_disk.specs.Disk.{Only}
+use Rattle.ucon_disk.specs.Run.{IsAtRest, LeavesAfter, LeavesFrom, LeavesOnly, joined, weaker}
+use Rattle.ucon_journal.specs.Found.{counted}
+use Rattle.ucon_turn.specs.Lists.{Begins, begins_refl}
 use Rattle.ucon_model.specs.declared.command.Caller.{Caller}
 use Rattle.ucon_model.specs.declared.command.Entry.{Entry}
 use Rattle.ucon_model.specs.Document.{ScriptLine, document_read, entries_of, policy_part}
 use Rattle.ucon_model.specs.Action.{Trace}
-use Rattle.ucon_model.specs.History.{History}
+use Rattle.ucon_model.specs.History.{History, trace_from}
 use Rattle.ucon_model.specs.Plain.{Bytes, PlainPolicy}
-use Rattle.ucon_model.specs.LegalRun.{Answered, history_made}
+use Rattle.ucon_model.specs.LegalRun.{Answered, IsLegalRun, history_made}
 use Rattle.ucon_model.specs.StoredRun.{failed_line}
 use Rattle.ucon_syntax.specs.Policies.{accepted}
 use Rattle.ucon_store.specs.Found.{IsFoundAs, IsFoundMarked, IsFoundWith, found_with}
+use Rattle.ucon_store.specs.Keeping.{GrowsFrom, HasSameRecords, KeepsRecords, SameRecords, keeps_on}
 use Rattle.ucon_store.specs.Kept.{Kept}
 use Rattle.ucon_store.specs.Marks.{is_marked, marked, none_marked, with_marked}
+use Rattle.ucon_state.specs.Held.{held_after}
 use Rattle.ucon_store.specs.Opened as seens
+use Rattle.ucon_store.specs.Opened.{last_point}
 use Rattle.ucon_store.specs.Opening.{IsSeenAs, Opens}
-use Rattle.ucon_store.specs.Starts.{IsStart}
+use Rattle.ucon_store.specs.Points.{IsOld, SamePlaces, has_points}
+use Rattle.ucon_store.specs.Starts.{BeginsAt, IsStart}
 use Rattle.ucon_store.specs.Stays.{IsFoundBetween}
-use Rattle.ucon_store.specs.Whole.{GoesOnFrom, IsFounded, IsFront, found_founded, whole}
+use Rattle.ucon_store.specs.Whole.{GoesOnFrom, IsFounded, IsFront, found_founded, trace_behind, whole}
 use Rattle.ucon_top.specs.declared.form.Form.{Form}
 use Rattle.ucon_outcome.specs.declared.outcome.Outcome.{Outcome}
 use Rattle.ucon_outcome.specs.declared.outcome.Outcome.TheVariants as outcomes
 use Rattle.ucon_top.specs.Accepted.{HasPolicy}
-use Rattle.ucon_top.specs.Closing.{Closes, EndsRun, IsClosedRun, IsMarkedBy, IsOfRun}
+use Rattle.ucon_top.specs.Closing.{Closes, IsClosedRun, IsMarkedBy, IsOfRun, IsToldBy}
 use Rattle.ucon_top.specs.Form.{output_order, sees_by}
 use Rattle.ucon_trial.specs.Runs.{IsUnfaulted}
 use Rattle.ucon_top.specs.Seen.{as_it_was}
-use Rattle.ucon_top.specs.Stepping.{AreAnswered, HaveOutput, IsRunBetween}
+use Rattle.ucon_top.specs.Keeping.{KeepsFile}
+use Rattle.ucon_top.specs.Played.{IsAnsweredInOrder}
+use Rattle.ucon_top.specs.Serial.{AreSerialAfter}
+use Rattle.ucon_top.specs.Stepping.{AreAnswered, AreAnsweredAfter, HaveOutput, IsRunBetween, entries_of_all}
+use Rattle.ucon_top.specs.Traits.{traits}
 use Rattle.ucon_top.specs.Unread.{IsUnread}
-use Rattle.ucon_top.specs.OwnReading.{HasPlayed, HasPlayedInput, HasRun, IsFoundSince, IsOwnFile, IsPlayed, IsRunOver}
+use Rattle.ucon_top.specs.OwnReading.{HasPlayed, HasPlayedInput, IsFoundSince, IsOwnState, IsPlayed, IsRunOver}
 use Rattle.ucon_top.proofs.Answering.{none_faulted}
+use Rattle.ucon_top.proofs.Stepwise.{serial_unfaulted}
 use Rattle.ucon_top.proofs.Behind.{begins_behind}
 use Rattle.ucon_disk.specs.Seen.{DiskSeen}
 use Rattle.ucon_flow.specs.Seen.{SinkSeen}
+
+-- what opening saw is what is there after each trace that leads to where the store begins, with its entries behind
+pub own_state : {D : Type 0} (P : PlainPolicy) (text : Bytes) (store : Kept D) → store.policy ≡ text → (T : Trace) → IsStart P store.point store.before T
+    → (file : Bytes) → IsSeenAs P store.policy store.point store.before store.entries file
+    → IsOwnState text P (store.before + length store.entries) (trace_behind P T store) file
+own_state P text store policy T starts file (inl fresh) =
+    let none : length store.entries ≡ 0 = ap (λ (es : History). length es) fresh.2 in
+    let first = subst (λ (p : Option Bytes). IsStart P p store.before T) fresh.1.0 starts in record {
+      seen = seens.fresh;
+      sees = fresh.0;
+      has = (omega (arith, fresh.1.1, none), (λ i. trace_from P (first.1 i) (fresh.2 i)));
+    }
+own_state P text store policy T starts file (inr holds) = record {
+  seen = seens.holds store.policy (store.before + length store.entries) (held_after P (trace_from P T store.entries)) holds.0;
+  sees = holds.1 T starts;
+  has = (policy, refl, refl);
+}
+
+pub if_so : (o : Option Bytes) {so then : Bytes → Type 0} → ((file : Bytes) → so file → then file) → IfSome o so → IfSome o then
+if_so None each h = tt
+if_so (Some file) each h = each file h
+
+-- what is so without threads
+on_false : (b : Bool) {A B : Type 0} → (A → B) → OnFalse b A → OnFalse b B
+on_false true f h = tt
+on_false false f h = f h
+
+-- what a disk's laws say of moments
+pub record HasMoments {D : Type 0} (seen : D → DiskSeen) : Type 0 where
+  pub counts_now : (disk : D) (t : ℕ) (c : List ℕ) → t ≤ (seen disk).moment → (seen disk).images c → (seen disk).images_since t c
+  pub only_now : (disk : D) (c : List ℕ) → (seen disk).images_since (seen disk).moment c → (seen disk).images c
+
+pub told_file : (o : Option Bytes) → IsSome o → (file : Bytes) × (o ≡ Some file)
+told_file None some = absurd (let no : false ≡ true = some in (cc))
+told_file (Some file) some = (file, refl)
+
+same_kind : (now was : Bool) (A : Type 0) → A → (now ≡ false) ↔ (A × (was ≡ false)) → now ≡ was
+same_kind true true A a old = refl
+same_kind false false A a old = refl
+same_kind true false A a old = absurd (let no : true ≡ false = old.1 (a, refl) in cc no)
+same_kind false true A a old = absurd (let no : true ≡ false = (old.0 refl).1 in cc no)
+
+records_begin : (text file c : Bytes) → HasSameRecords text file c → Begins (counted file) (counted c)
+records_begin text file c (inl same) = subst (Begins (counted file)) (sym same) (begins_refl (counted file))
+records_begin text file c (inr made) = (counted c, ap (λ (l : List Bytes). l ++ counted c) made.0)
 
 module _ {D : Type 0} (seen : D → DiskSeen) where
   -- what the opening of a store under a policy told
   pub record IsOpened (P : PlainPolicy) (text : Bytes) (disk : D) (store : Kept D) : Type 0 where
     pub policy : store.policy ≡ text
     pub unmarked : store.mark ≡ None
-    pub images_kept : LeavesAfter (seen disk) (seen store.disk) (Opens text)
+    pub images_kept : LeavesFrom (seen disk) (seen store.disk) (Opens text)
     pub unfailed : (seen store.disk).faults ≡ (seen disk).faults
     pub tells : IsSome (seen disk).contents → IsSome (seen store.disk).contents
-    pub own : IfSome (seen disk).contents (IsOwnFile text (store.before + length store.entries))
+    pub begun : Trace
+    pub starts : IsStart P store.point store.before begun
+    pub own : IfSome (seen disk).contents (IsOwnState text P (store.before + length store.entries) (trace_behind P begun store))
+    pub begins : IfSome (seen disk).contents (λ file. BeginsAt (last_point file) store.point store.before)
+    pub at_rest : Only (seen store.disk).contents (seen store.disk).images
+    pub places : SamePlaces (seen disk).contents (seen store.disk).contents
+    pub records : SameRecords text (seen disk).contents (seen store.disk).contents
+    pub old : (before now : Bytes) → (seen disk).contents ≡ Some before → (seen store.disk).contents ≡ Some now → (has_points now ≡ false) ↔ IsOld before
     pub founded : (file : Bytes) (H : History) → (seen disk).contents ≡ Some file → IsFoundAs text file H → GoesOnFrom seen P store H
 
-  module _ (P : PlainPolicy) (text : Bytes) (disk : D) (store closed : Kept D) (now : D) (opened : IsOpened P text disk store)
+  -- ---- the records of the file, whatever it is found as
+
+  module _ (moments : HasMoments seen) (P : PlainPolicy) (text : Bytes) (disk : D) (store : Kept D) (opened : IsOpened P text disk store) where
+    kept_open : (file c : Bytes) → (seen disk).contents ≡ Some file → (seen store.disk).contents ≡ Some c → KeepsRecords file c
+    kept_open file c was now = record {
+      kind = λ long. same_kind (has_points c) (has_points file) (9 < length file) long (opened.old file c was now);
+      records = records_begin text file c (subst (λ (z : Option Bytes × Option Bytes). SameRecords text z.0 z.1) (λ i. (was i, now i)) opened.records);
+    }
+
+    opened_rest : (c : Bytes) → (seen store.disk).contents ≡ Some c → IsAtRest (seen store.disk) c
+    opened_rest c is = record { told = is; only = subst (λ (o : Option Bytes). Only o (seen store.disk).images) is opened.at_rest }
+
+    module _ (now : D) (grows : LeavesAfter (seen store.disk) (seen now) GrowsFrom) (file : Bytes) (was : (seen disk).contents ≡ Some file) where
+      there : (c : Bytes) × ((seen store.disk).contents ≡ Some c)
+      there = told_file (seen store.disk).contents (opened.tells (ap is_some was))
+
+      grown : LeavesOnly (seen store.disk) (seen now) (KeepsRecords file)
+      grown = weaker (seen store.disk) (seen now) (GrowsFrom there.0) (KeepsRecords file)
+          (λ c. keeps_on file there.0 c (kept_open file there.0 was there.1)) (grows.each there.0 (opened_rest there.0 there.1))
+
+      kept_now : (c : Bytes) → (seen now).images c → KeepsRecords file c
+      kept_now c image = grown.each c (moments.counts_now now (seen store.disk).moment c grown.later image)
+
+      abbrev KeptOr : Bytes → Type 0
+      KeptOr c = (seen disk).images c ⊎ KeepsRecords file c
+
+      kept_since : LeavesOnly (seen disk) (seen now) KeptOr
+      kept_since =
+          joined (seen disk) (seen store.disk) (seen now) KeptOr
+          (weaker (seen disk) (seen store.disk) (λ c. (seen disk).images c ⊎ Opens text file c) KeptOr
+          (λ c. ⊎_elim inl (λ o. inr (record { kind = o.kind; records = records_begin text file c o.records }))) (opened.images_kept.each file was))
+          (weaker (seen store.disk) (seen now) (KeepsRecords file) KeptOr (λ c. inr) grown)
+
+    pub keeps_file : (now : D) → LeavesAfter (seen store.disk) (seen now) GrowsFrom → KeepsFile (seen disk) (seen now)
+    keeps_file now grows = record {
+      since = record { each = λ file was. kept_since now grows file was };
+      now = λ file was. kept_now now grows file was;
+    }
+
+  module _ (moments : HasMoments seen) (P : PlainPolicy) (text : Bytes) (disk : D) (store closed : Kept D) (now : D) (opened : IsOpened P text disk store)
       (closes : Closes seen store closed now) where
     -- ---- images, behind a history on which the store is founded and as which with its entries the file was found
 
@@ -85,15 +188,19 @@ module _ {D : Type 0} (seen : D → DiskSeen) where
               inr (with_marked failed m.0 (G ++ closed.entries) b.history (sym marks ∙ m.1) m.2)) b.within;
         }
 
-        since_opened : IsAtRest (seen disk) file → LeavesOnly (seen disk) (seen closed.disk) Since
-        since_opened rest =
-            joined (seen disk) (seen store.disk) (seen closed.disk) Since
-            (weaker (seen disk) (seen store.disk) (Opens text file) Since (λ c o. found_at_first c (o.same (G ++ store.entries) found)) (opened.images_kept.each file rest))
-            (weaker (seen store.disk) (seen closed.disk) (λ c. (seen store.disk).images c ⊎ IsFoundBetween (whole G store) (whole G closed) c) Since
-            (λ c. ⊎_elim (λ image. found_at_first c (found_resting c image)) (found_between c)) (closes.stays.left P G f told_opened))
+        abbrev SinceOr : Bytes → Type 0
+        SinceOr c = (seen disk).images c ⊎ Since c
 
-        since_now : IsAtRest (seen disk) file → LeavesOnly (seen disk) (seen now) Since
-        since_now rest = subst (λ (d : D). LeavesOnly (seen disk) (seen d) Since) (sym closes.disk_is) (since_opened rest)
+        since_opened : LeavesOnly (seen disk) (seen closed.disk) SinceOr
+        since_opened =
+            joined (seen disk) (seen store.disk) (seen closed.disk) SinceOr
+            (weaker (seen disk) (seen store.disk) (λ c. (seen disk).images c ⊎ Opens text file c) SinceOr
+            (λ c. ⊎_elim inl (λ o. inr (found_at_first c (o.same (G ++ store.entries) found)))) (opened.images_kept.each file told))
+            (weaker (seen store.disk) (seen closed.disk) (λ c. (seen store.disk).images c ⊎ IsFoundBetween (whole G store) (whole G closed) c) SinceOr
+            (λ c. ⊎_elim (λ image. inr (found_at_first c (found_resting c image))) (λ b. inr (found_between c b))) (closes.stays.left P G f told_opened))
+
+        since_now : LeavesOnly (seen disk) (seen now) SinceOr
+        since_now = subst (λ (d : D). LeavesOnly (seen disk) (seen d) SinceOr) (sym closes.disk_is) since_opened
 
         -- what a crash leaves behind the closing
         left_now : (c : Bytes) → (seen now).images c → IsFoundWith text (G ++ closed.entries) failed c
@@ -112,136 +219,170 @@ module _ {D : Type 0} (seen : D → DiskSeen) where
             legal = run.legal;
             unfailed = λ none. ap (λ d. (seen d).faults) closes.disk_is ∙ closes.stays.unfailed (ap is_some (run.failed ∙ ap marked none) ∙ sym (ap is_some opened.unmarked)) ∙ opened.unfailed;
             failed = λ e is. ap (λ d. (seen d).faults) closes.disk_is ∙ closes.stays.failed opened.unmarked (e ∷ []) (run.failed ∙ ap marked is) ∙ ap raised opened.unfailed;
-            since = λ rest. rw made (since_now failed run.failed rest);
+            since = rw made (since_now failed run.failed);
             now = λ c image. rw made (left_now failed run.failed c image);
           }
 
-      has_run : (sees : Caller → Caller → Bool) (lines : List Entry) (so : List Entry → List Answered → Type 0) (given : List Answered → Type 0)
-          → AreAnswered sees P (whole G store) (whole G closed) lines given
-          → ((told : List Answered) → IsRunBetween sees P (whole G store) (whole G closed) told → given told → so lines told)
-          → HasRun sees text P lines file (G ++ store.entries) (seen disk) (seen now) so
-      has_run sees lines so given run makes = record {
-        told = run.told;
-        lines_are = run.lines_are;
-        played = played sees run.told run.run;
-        is_so = makes run.told run.run run.is_so;
-      }
+    -- ---- the answers, after the trace that leads to where the store begins
+
+    in_order : (told : List Answered) → AreAnsweredAfter P opened.begun store closed told
+        → IsAnsweredInOrder P (trace_behind P opened.begun store) (entries_of_all store) (seen disk) (seen now) told
+    in_order told after = record {
+      serial = after.serial;
+      unfailed = λ none. ap (λ d. (seen d).faults) closes.disk_is
+          ∙ closes.stays.unfailed (ap is_some (after.mark ∙ ap marked none) ∙ sym (ap is_some opened.unmarked)) ∙ opened.unfailed;
+      failed = λ e is. ap (λ d. (seen d).faults) closes.disk_is
+          ∙ closes.stays.failed opened.unmarked (e ∷ []) (after.mark ∙ ap marked is) ∙ ap raised opened.unfailed;
+    }
+
+    -- ---- all of it
 
     module _ (form : Form) (bytes : Bytes) (lines : List ScriptLine) (is_text : text ≡ policy_part bytes) (has_policy : HasPolicy bytes P)
-        (says : document_read accepted bytes ≡ Ok lines) (so : List Entry → List Answered → Type 0) (given : List Answered → Type 0) where
+        (says : document_read accepted bytes ≡ Ok lines) (causes : List Answered → Type 0) (so : List Entry → List Answered → Type 0) where
       abbrev Lines : List Entry
       Lines = output_order form (entries_of lines)
 
-      behind : (file : Bytes) (opening : History) → (seen disk).contents ≡ Some file → IsFoundAs text file opening
-          → ((G : History) → IsFront P store G → AreAnswered (sees_by form) P (whole G store) (whole G closed) Lines given)
-          → ((G : History) (told : List Answered) → IsRunBetween (sees_by form) P (whole G store) (whole G closed) told → given told → so Lines told)
-          → HasRun (sees_by form) text P Lines file opening (seen disk) (seen now) so
-      behind file opening is found run makes =
-          let goes = opened.founded file opening is found in
-          let G = goes.before in
-          let found_so = subst (λ (H : History). IsFoundAs text file H) goes.all found in
-          subst (λ (H : History). HasRun (sees_by form) text P Lines file H (seen disk) (seen now) so) (sym goes.all)
-          (has_run file is G goes.founded found_so (sees_by form) Lines so given (run G goes.founded.front) (makes G))
+      module _ (given : List Answered → Type 0)
+          (answers : AreAnswered (sees_by form) (traits form).threads P store closed Lines given)
+          (caused : (sees : Caller → Caller → Bool) (H : History) (told : List Answered) → IsLegalRun P sees H told → closed.mark ≡ marked (failed_line told) → causes told)
+          (caused_after : (T : Trace) (n : ℕ) (told : List Answered) → AreSerialAfter P T n told → closed.mark ≡ marked (failed_line told) → causes told)
+          (makes : (told : List Answered) → given told → so Lines told) where
+        behind : (file : Bytes) (opening : History) → (seen disk).contents ≡ Some file → IsFoundAs text file opening
+            → (length opening ≡ entries_of_all store) × IsPlayed (sees_by form) text P file opening (seen disk) (seen now) answers.told × causes answers.told
+        behind file opening is found =
+            let goes = opened.founded file opening is found in
+            let G = goes.before in
+            let found_so = subst (λ (H : History). IsFoundAs text file H) goes.all found in
+            let run = answers.run G goes.founded.front in
+            subst (λ (H : History). (length H ≡ entries_of_all store) × IsPlayed (sees_by form) text P file H (seen disk) (seen now) answers.told × causes answers.told)
+            (sym goes.all) (
+              length-append G store.entries ∙ ap (λ (n : ℕ). n + length store.entries) goes.founded.front.count,
+              played file is G goes.founded found_so (sees_by form) answers.told run,
+              caused (sees_by form) (G ++ store.entries) answers.told run.legal run.failed,
+            )
 
-      pub run_over : ((G : History) → IsFront P store G → AreAnswered (sees_by form) P (whole G store) (whole G closed) Lines given)
-          → ((G : History) (told : List Answered) → IsRunBetween (sees_by form) P (whole G store) (whole G closed) told → given told → so Lines told)
-          → IsRunOver form bytes (seen disk) (seen now) so
-      run_over run makes = record {
-        policy = P;
-        lines = lines;
-        has_policy = has_policy;
-        says = says;
-        entries = store.before + length store.entries;
-        own = subst (λ (t : Bytes). IfSome (seen disk).contents (IsOwnFile t (store.before + length store.entries))) is_text opened.own;
-        run = subst (λ (t : Bytes). (file : Bytes) (opening : History) → (seen disk).contents ≡ Some file → IsFoundAs t file opening
-            → HasRun (sees_by form) t P Lines file opening (seen disk) (seen now) so) is_text
-            (λ file opening is found. behind file opening is found run makes);
-      }
+        after_there : ((T : Trace) → IsStart P store.point store.before T → AreAnsweredAfter P T store closed answers.told)
+            → IsAnsweredInOrder P (trace_behind P opened.begun store) (entries_of_all store) (seen disk) (seen now) answers.told × causes answers.told
+        after_there each =
+            let after = each opened.begun opened.starts in
+            (in_order answers.told after, caused_after (trace_behind P opened.begun store) (entries_of_all store) answers.told after.serial after.mark)
+
+        pub run_over : IsRunOver form bytes (seen disk) (seen now) causes so
+        run_over = record {
+          policy = P;
+          lines = lines;
+          has_policy = has_policy;
+          says = says;
+          entries = entries_of_all store;
+          actions = trace_behind P opened.begun store;
+          own = subst (λ (t : Bytes). IfSome (seen disk).contents (IsOwnState t P (entries_of_all store) (trace_behind P opened.begun store))) is_text opened.own;
+          keeps = keeps_file moments P text disk store opened now
+              (subst (λ (d : D). LeavesAfter (seen store.disk) (seen d) GrowsFrom) (sym closes.disk_is) closes.stays.grows);
+          told = answers.told;
+          lines_are = answers.lines_are;
+          is_so = makes answers.told answers.is_so;
+          serial = on_false (traits form).threads after_there answers.serial;
+          run = subst (λ (t : Bytes). (file : Bytes) (opening : History) → (seen disk).contents ≡ Some file → IsFoundAs t file opening
+              → (length opening ≡ entries_of_all store) × IsPlayed (sees_by form) t P file opening (seen disk) (seen now) answers.told × causes answers.told)
+              is_text behind;
+        }
 
   -- how playing ends, by how the run over the store does
-  module _ (P : PlainPolicy) (text : Bytes) (disk : D) (store : Kept D) (opened : IsOpened P text disk store) (form : Form) (bytes : Bytes) (lines : List ScriptLine)
+  module _ (moments : HasMoments seen) (P : PlainPolicy) (text : Bytes) (disk : D) (store : Kept D) (opened : IsOpened P text disk store) (form : Form)
+      (bytes : Bytes) (lines : List ScriptLine)
       (is_text : text ≡ policy_part bytes) (has_policy : HasPolicy bytes P) (says : document_read accepted bytes ≡ Ok lines) (now : D) (was written : SinkSeen) where
     abbrev Entries : List Entry
     Entries = output_order form (entries_of lines)
 
-    abbrev EndsSo : Kept D → Outcome → Type 0
-    EndsSo closed outcome = (G : History) → IsFront P store G → EndsRun (sees_by form) P (whole G store) (whole G closed) Entries was.contents written.contents outcome
-
     module _ (closed : Kept D) (closes : Closes seen store closed now) where
-      over : (so : List Entry → List Answered → Type 0) (given : List Answered → Type 0)
-          → ((G : History) → IsFront P store G → AreAnswered (sees_by form) P (whole G store) (whole G closed) Entries given)
-          → ((G : History) (told : List Answered) → IsRunBetween (sees_by form) P (whole G store) (whole G closed) told → given told → so Entries told)
-          → IsRunOver form bytes (seen disk) (seen now) so
-      over = run_over P text disk store closed now opened closes form bytes lines is_text has_policy says
+      abbrev EndsSo : Outcome → Type 0
+      EndsSo outcome = AreAnswered (sees_by form) (traits form).threads P store closed Entries (IsToldBy Entries was.contents written.contents outcome)
+
+      over : (causes : List Answered → Type 0) (so : List Entry → List Answered → Type 0) (given : List Answered → Type 0)
+          → AreAnswered (sees_by form) (traits form).threads P store closed Entries given
+          → ((sees : Caller → Caller → Bool) (H : History) (told : List Answered) → IsLegalRun P sees H told → closed.mark ≡ marked (failed_line told) → causes told)
+          → ((T : Trace) (n : ℕ) (told : List Answered) → AreSerialAfter P T n told → closed.mark ≡ marked (failed_line told) → causes told)
+          → ((told : List Answered) → given told → so Entries told)
+          → IsRunOver form bytes (seen disk) (seen now) causes so
+      over = run_over moments P text disk store closed now opened closes form bytes lines is_text has_policy says
 
       unfailed : closed.mark ≡ None → (seen now).faults ≡ (seen disk).faults
       unfailed none = ap (λ d. (seen d).faults) closes.disk_is ∙ closes.stays.unfailed (ap is_some (none ∙ sym opened.unmarked)) ∙ opened.unfailed
 
-      ends : (outcome : Outcome) → IsOfRun outcome → IsMarkedBy outcome closed.mark → EndsSo closed outcome
+      -- where the store isn't stopped, no line met a disk fault; and where it is, one did
+      no_line : closed.mark ≡ None → (told : List Answered) → closed.mark ≡ marked (failed_line told) → failed_line told ≡ None
+      no_line by told marks = none_marked (failed_line told) (sym marks ∙ by)
+
+      one_line : IsSome closed.mark → (told : List Answered) → closed.mark ≡ marked (failed_line told) → IsSome (failed_line told)
+      one_line by told marks = sym (is_marked (failed_line told)) ∙ (ap is_some (sym marks) ∙ by)
+
+      ends : (outcome : Outcome) → IsOfRun outcome → IsMarkedBy outcome closed.mark → EndsSo outcome
           → HasPlayed form outcome bytes (seen disk) (seen now) was written
       ends outcomes.Done of by e = (
-        over (λ (es : List Entry) (told : List Answered). (failed_line told ≡ None) × IsUnfaulted told × HaveOutput (Appends was.contents written.contents) es told)
+        over (λ told. (failed_line told ≡ None) × IsUnfaulted told) (HaveOutput (Appends was.contents written.contents))
             (HaveOutput (Appends was.contents written.contents) Entries) e
-            (λ G told run output. let none = none_marked (failed_line told) (sym run.failed ∙ by) in (none, none_faulted P (sees_by form) (G ++ store.entries) told run.legal none, output)),
+            (λ sees H told legal marks. let none = no_line by told marks in (none, none_faulted P sees H told legal none))
+            (λ T n told serial marks. let none = no_line by told marks in (none, serial_unfaulted P T n told serial none))
+            (λ told output. output),
         unfailed by,
       )
       ends outcomes.SinkFault of by e =
-          over (HaveOutput (AppendsPrefix was.contents written.contents)) (HaveOutput (AppendsPrefix was.contents written.contents) Entries) e (λ G told run output. output)
+          over (λ told. ⊤) (HaveOutput (AppendsPrefix was.contents written.contents)) (HaveOutput (AppendsPrefix was.contents written.contents) Entries) e
+          (λ sees H told legal marks. tt) (λ T n told serial marks. tt) (λ told output. output)
       ends outcomes.DiskFault of by e = inl (
-          over (λ (es : List Entry) (told : List Answered). IsSome (failed_line told) × HaveOutput (Appends was.contents written.contents) es told)
-          (HaveOutput (Appends was.contents written.contents) Entries) e (λ G told run output. (sym (is_marked (failed_line told)) ∙ (ap is_some (sym run.failed) ∙ by), output))
+          over (λ told. IsSome (failed_line told)) (HaveOutput (Appends was.contents written.contents))
+          (HaveOutput (Appends was.contents written.contents) Entries) e
+          (λ sees H told legal marks. one_line by told marks) (λ T n told serial marks. one_line by told marks) (λ told output. output)
           )
       ends (outcomes.NoMemory m) of by e =
-          inr (inr (over (λ (es : List Entry) (told : List Answered). ⊤) (λ (told : List Answered). ⊤) e (λ G told run nothing. tt)))
+          inr (inr (over (λ told. ⊤) (λ (es : List Entry) (told : List Answered). ⊤) (λ (told : List Answered). ⊤) e
+          (λ sees H told legal marks. tt) (λ T n told serial marks. tt) (λ told nothing. tt)))
       ends outcome of by e = absurd (cc (of.0, of.1))
 
     pub ends_run : (outcome : Outcome) → IsOfRun outcome
-        → IsClosedRun seen (sees_by form) P store Entries outcome now was.contents written.contents
+        → IsClosedRun seen (sees_by form) (traits form).threads P store Entries outcome now was.contents written.contents
         → HasPlayed form outcome bytes (seen disk) (seen now) was written
-    ends_run outcome of run = ends run.closed run.closes outcome of run.marked run.ends
+    ends_run outcome of run = ends run.closed run.closes outcome of run.marked run.answered
 
   -- a run that met a disk fault raised the disk's count
-  pub run_raised : (sees : Caller → Caller → Bool) (P : PlainPolicy) (disk : D) (store : Kept D) → store.mark ≡ None → (seen store.disk).faults ≡ (seen disk).faults → (lines : List Entry) (now : D) (was written : Option Bytes)
-      → IsClosedRun seen sees P store lines outcomes.DiskFault now was written → (seen now).faults ≡ raised (seen disk).faults
-  run_raised sees P disk store unmarked unfailed lines now was written run = by_mark run.closed.mark refl run.marked
+  pub run_raised : (sees : Caller → Caller → Bool) (threads : Bool) (P : PlainPolicy) (disk : D) (store : Kept D) → store.mark ≡ None → (seen store.disk).faults ≡ (seen disk).faults → (lines : List Entry) (now : D) (was written : Option Bytes)
+      → IsClosedRun seen sees threads P store lines outcomes.DiskFault now was written → (seen now).faults ≡ raised (seen disk).faults
+  run_raised sees threads P disk store unmarked unfailed lines now was written run = by_mark run.closed.mark refl run.marked
     where
       by_mark : (mark : Option History) → run.closed.mark ≡ mark → IsSome mark → (seen now).faults ≡ raised (seen disk).faults
       by_mark None is some = absurd (let no : false ≡ true = some in (cc))
       by_mark (Some es) is some = ap (λ d. (seen d).faults) run.closes.disk_is ∙ run.closes.stays.failed unmarked es is ∙ ap raised unfailed
 
-  -- what opening saw is the document's own file
-  pub own_seen : (P : PlainPolicy) (text : Bytes) (store : Kept D) → store.policy ≡ text → (T : Trace) → IsStart P store.point store.before T
-      → (file : Bytes) → IsSeenAs P store.policy store.point store.before store.entries file → IsOwnFile text (store.before + length store.entries) file
-  own_seen P text store policy T starts file (inl fresh) = record {
-    seen = seens.fresh;
-    sees = fresh.0;
-    has = let none : length store.entries ≡ 0 = ap (λ (es : History). length es) fresh.2 in omega (arith, fresh.1.1, none);
-  }
-  own_seen P text store policy T starts file (inr holds) = record { seen = _; sees = holds.1 T starts; has = (policy, refl) }
-
   -- all that is told where a store is opened
   pub opened_so : (P : PlainPolicy) (text : Bytes) (disk : D) (store : Kept D) → accepted text ≡ Some P
       → (store.policy ≡ text) × (store.opening ≡ store.before + length store.entries) × (store.mark ≡ None)
-      → LeavesAfter (seen disk) (seen store.disk) (Opens text) → (seen store.disk).faults ≡ (seen disk).faults
+      → LeavesFrom (seen disk) (seen store.disk) (Opens text) → (seen store.disk).faults ≡ (seen disk).faults
       → is_some (seen store.disk).contents ≡ is_some (seen disk).contents
       → ((P : PlainPolicy) → accepted text ≡ Some P → (T : Trace) × IsStart P store.point store.before T)
       → ((P : PlainPolicy) → accepted text ≡ Some P → IfSome (seen disk).contents (IsSeenAs P store.policy store.point store.before store.entries))
+      → IfSome (seen disk).contents (λ file. BeginsAt (last_point file) store.point store.before)
+      → Only (seen store.disk).contents (seen store.disk).images → SamePlaces (seen disk).contents (seen store.disk).contents
+      → SameRecords text (seen disk).contents (seen store.disk).contents
+      → ((before now : Bytes) → (seen disk).contents ≡ Some before → (seen store.disk).contents ≡ Some now → (has_points now ≡ false) ↔ IsOld before)
       → ((P : PlainPolicy) (file : Bytes) (H : History) → accepted text ≡ Some P → (seen disk).contents ≡ Some file → IsFoundAs text file H
       → GoesOnFrom seen P store H)
       → IsOpened P text disk store
-  opened_so P text disk store accepts is images_kept unfailed tells leads saw founded = record {
+  opened_so P text disk store accepts is images_kept unfailed tells leads saw begins at_rest places records old founded = let start = leads P accepts in record {
     policy = is.0;
     unmarked = is.2;
     images_kept = images_kept;
     unfailed = unfailed;
     tells = λ some. tells ∙ some;
-    own = let start = leads P accepts in if_so (seen disk).contents (own_seen P text store is.0 start.0 start.1) (saw P accepts);
+    begun = start.0;
+    starts = start.1;
+    own = if_so (seen disk).contents (own_state P text store is.0 start.0 start.1) (saw P accepts);
+    begins = begins;
+    at_rest = at_rest;
+    places = places;
+    records = records;
+    old = old;
     founded = λ file H told found. founded P file H accepts told found;
   }
-    where
-      if_so : (o : Option Bytes) {so then : Bytes → Type 0} → ((file : Bytes) → so file → then file) → IfSome o so → IfSome o then
-      if_so None each h = tt
-      if_so (Some file) each h = each file h
 
 -- how playing ends that comes to no run
 module _ (form : Form) where

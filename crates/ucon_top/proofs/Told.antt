@@ -1,23 +1,23 @@
 -- From the opening of a journal to its closing, where no line was run: what was told of it.
 use Rattle.std.proofs.Common.{◌≡◌, ℕ, ◌+◌, false, true, [], length, refl, sym, ap, subst, inl, inr, arith}
-use Rattle.std.specs.Prelude.{◌↔◌, Option, Some, None, IfSome, Result, Ok, Err, IfOk, OnErr}
+use Rattle.std.specs.Prelude.{Option, Some, None, IfSome, Result, Ok, Err, IfOk, OnErr}
 use Rattle.std.specs.Io.KnownBytes.{Appends}
 use Rattle.ucon_flow.specs.Writing.{AppendsPrefix}
+use Rattle.ucon_disk.specs.Run.{LeavesAfter}
 use Rattle.ucon_disk.specs.Seen.{DiskSeen}
 use Rattle.ucon_flow.specs.Seen.{SinkSeen}
 use Rattle.ucon_model.specs.Document.{policy_part}
 use Rattle.ucon_model.specs.Action.{Trace}
 use Rattle.ucon_model.specs.History.{History, trace, trace_from}
 use Rattle.ucon_model.specs.Plain.{Bytes, PlainPolicy}
-use Rattle.ucon_state.specs.Held.{held_after}
 use Rattle.ucon_store.specs.declared.fault.StoreFault.{StoreFault}
 use Rattle.ucon_store.specs.declared.fault.StoreFault.TheVariants as stores
 use Rattle.ucon_store.specs.Found.{IsFoundAs}
+use Rattle.ucon_store.specs.Keeping.{GrowsFrom}
 use Rattle.ucon_store.specs.Kept.{Kept}
-use Rattle.ucon_store.specs.Opened as seens
 use Rattle.ucon_store.specs.Opening.{IsSeenAs}
-use Rattle.ucon_store.specs.Points.{IsOld, SamePlaces, has_points}
 use Rattle.ucon_store.specs.Starts.{IsStart}
+use Rattle.ucon_store.specs.Stays.{stays_same}
 use Rattle.ucon_outcome.specs.declared.outcome.Outcome.{Outcome}
 use Rattle.ucon_outcome.specs.declared.outcome.Outcome.TheVariants as outcomes
 use Rattle.ucon_outcome.specs.Ending.{by_opening}
@@ -25,41 +25,18 @@ use Rattle.ucon_top.specs.declared.form.Form.{Form}
 use Rattle.ucon_top.specs.declared.form.Form.TheVariants as forms
 use Rattle.ucon_top.specs.Accepted.{HasPolicy}
 use Rattle.ucon_top.specs.Closing.{IsWritten}
-use Rattle.ucon_top.specs.OwnReading.{HasTold, HasToldInput, IsOpenedState, IsOwnState, IsStillFound, Tells, TellsNothing}
+use Rattle.ucon_top.specs.OwnReading.{HasTold, HasToldInput, IsOpenedState, IsStillFound, Tells, TellsNothing}
 use Rattle.ucon_top.specs.Seen.{as_it_was}
-use Rattle.ucon_top.specs.Telling.{HasItsPoints}
+use Rattle.ucon_top.specs.Pointed.{HasItsPoints}
 use Rattle.ucon_top.specs.Unread.{IsUnread}
 use Rattle.ucon_top.proofs.Behind.{trace_append}
-use Rattle.ucon_top.proofs.Playing.{IsOpened}
-use Rattle.ucon_top.proofs.Pointing.{HasMoments, as_many, still_unpointed}
+use Rattle.ucon_top.proofs.Playing.{HasMoments, IsOpened, if_so, keeps_file, own_state}
+use Rattle.ucon_top.proofs.Pointing.{as_many, still_unpointed}
 
 -- ---- over a store that was opened
 
--- what opening saw is what is there after each trace that leads to where the store begins, with its entries behind
-own_state : {D : Type 0} (P : PlainPolicy) (text : Bytes) (store : Kept D) → store.policy ≡ text → (T : Trace) → IsStart P store.point store.before T
-    → (file : Bytes) → IsSeenAs P store.policy store.point store.before store.entries file
-    → IsOwnState text P (store.before + length store.entries) (trace_from P T store.entries) file
-own_state P text store policy T starts file (inl fresh) =
-    let none : length store.entries ≡ 0 = ap (λ (es : History). length es) fresh.2 in
-    let first = subst (λ (p : Option Bytes). IsStart P p store.before T) fresh.1.0 starts in record {
-      seen = seens.fresh;
-      sees = fresh.0;
-      has = (omega (arith, fresh.1.1, none), (λ i. trace_from P (first.1 i) (fresh.2 i)));
-    }
-own_state P text store policy T starts file (inr holds) = record {
-  seen = seens.holds store.policy (store.before + length store.entries) (held_after P (trace_from P T store.entries)) holds.0;
-  sees = holds.1 T starts;
-  has = (policy, refl, refl);
-}
-
-if_so : (o : Option Bytes) {so then : Bytes → Type 0} → ((file : Bytes) → so file → then file) → IfSome o so → IfSome o then
-if_so None each h = tt
-if_so (Some file) each h = each file h
-
 module _ {D : Type 0} (seen : D → DiskSeen) (moments : HasMoments seen) (bytes : Bytes) (P : PlainPolicy) (has_policy : HasPolicy bytes P)
     (disk : D) (store : Kept D) (opened : IsOpened seen P (policy_part bytes) disk store)
-    (same_places : SamePlaces (seen disk).contents (seen store.disk).contents)
-    (old : (before now : Bytes) → (seen disk).contents ≡ Some before → (seen store.disk).contents ≡ Some now → (has_points now ≡ false) ↔ IsOld before)
     (saw : IfSome (seen disk).contents (IsSeenAs P store.policy store.point store.before store.entries)) where
   abbrev count : ℕ
   count = store.before + length store.entries
@@ -75,14 +52,16 @@ module _ {D : Type 0} (seen : D → DiskSeen) (moments : HasMoments seen) (bytes
     actions = trace_from P T store.entries;
     own = if_so (seen disk).contents (own_state P (policy_part bytes) store opened.policy T starts) saw;
     is_so = each T starts;
+    keeps = keeps_file seen moments P (policy_part bytes) disk store opened now
+        (subst (λ (d : D). LeavesAfter (seen store.disk) (seen d) GrowsFrom) (sym same) (stays_same seen moments.only_now store).grows);
     still = λ file opening told found.
         let from = opened.founded file opening told found in
         let G = from.before in
         let here = subst (λ (H : History). IsFoundAs (policy_part bytes) file H) from.all found in
         let it = subst (λ (U : Trace). so P U) (sym (trace_append P [] G store.entries)) (each (trace P G) from.founded.front.starts) in
-        subst (λ (H : History). (length H ≡ count) × IsStillFound (policy_part bytes) file H (seen disk) (seen now) HasItsPoints × so P (trace P H)) (sym from.all) (
-          as_many seen moments bytes P has_policy disk store opened same_places old file told G from.founded here,
-          still_unpointed seen moments bytes P has_policy disk store opened same_places old file told G from.founded here now same,
+        subst (λ (H : History). (length H ≡ count) × IsStillFound (policy_part bytes) file H (seen disk) (seen now) HasItsPoints HasItsPoints × so P (trace P H)) (sym from.all) (
+          as_many seen moments bytes P has_policy disk store opened file told G from.founded here,
+          still_unpointed seen moments bytes P has_policy disk store opened file told G from.founded here now same,
           it,
         );
   }
@@ -108,6 +87,7 @@ module _ (bytes : Bytes) (old new : DiskSeen) where
     actions = t.actions;
     own = t.own;
     is_so = then _ t.is_so;
+    keeps = t.keeps;
     still = λ file opening told found. let is = t.still file opening told found in (is.0, is.1, then _ is.2);
   }
   tells_so (forms.Audit kept) so more then t = record {

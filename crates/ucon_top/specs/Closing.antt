@@ -6,10 +6,10 @@ use Rattle.ucon_flow.specs.Writing.{AppendsPrefix}
 use Rattle.ucon_model.specs.declared.command.Caller.{Caller}
 use Rattle.ucon_model.specs.declared.command.Entry.{Entry}
 use Rattle.ucon_model.specs.History.{History}
+use Rattle.ucon_model.specs.LegalRun.{Answered}
 use Rattle.ucon_model.specs.Plain.{Bytes, PlainPolicy}
 use Rattle.ucon_store.specs.Kept.{Kept}
 use Rattle.ucon_store.specs.Stays.{Stays}
-use Rattle.ucon_store.specs.Whole.{IsFront, whole}
 use Rattle.ucon_outcome.specs.declared.outcome.Outcome.{Outcome}
 use Rattle.ucon_outcome.specs.declared.outcome.Outcome.TheVariants.{Done, SinkFault, DiskFault, NoMemory}
 use Rattle.ucon_outcome.specs.Ending.{ending}
@@ -33,14 +33,14 @@ IsMarkedBy Done mark = mark ≡ None
 IsMarkedBy DiskFault mark = IsSome mark
 IsMarkedBy outcome mark = ⊤
 
--- how the run ended: the lines were answered, and where there was memory for it their output was written
-module _ {D : Type 0} (sees : Caller → Caller → Bool) (P : PlainPolicy) (store closed : Kept D) (lines : List Entry) (before now : Option Bytes) where
-  abbrev pub EndsRun : Outcome → Type 0
-  EndsRun Done = AreAnswered sees P store closed lines (HaveOutput (Appends before now) lines)
-  EndsRun DiskFault = AreAnswered sees P store closed lines (HaveOutput (Appends before now) lines)
-  EndsRun SinkFault = AreAnswered sees P store closed lines (HaveOutput (AppendsPrefix before now) lines)
-  EndsRun (NoMemory e) = AreAnswered sees P store closed lines (λ told. ⊤)
-  EndsRun outcome = ⊥
+-- what was written of the answers to these lines, by how the run ended: their output, a front of it, or nothing where there was no memory
+module _ (lines : List Entry) (before now : Option Bytes) where
+  abbrev pub IsToldBy : Outcome → List Answered → Type 0
+  IsToldBy Done told = HaveOutput (Appends before now) lines told
+  IsToldBy DiskFault told = HaveOutput (Appends before now) lines told
+  IsToldBy SinkFault told = HaveOutput (AppendsPrefix before now) lines told
+  IsToldBy (NoMemory e) told = ⊤
+  IsToldBy outcome told = ⊥
 
 module _ {D : Type 0} (seen : D → DiskSeen) where
   -- the store was closed, and gave its disk back
@@ -48,10 +48,10 @@ module _ {D : Type 0} (seen : D → DiskSeen) where
     pub stays : Stays seen store closed
     pub disk_is : disk ≡ closed.disk
 
-  -- and the run over it ended so, behind each history that leads to where the store begins
-  pub record IsClosedRun (sees : Caller → Caller → Bool) (P : PlainPolicy) (store : Kept D) (lines : List Entry) (outcome : Outcome)
+  -- and the run over it ended so: the lines were answered, and where there was memory for it their output was written
+  pub record IsClosedRun (sees : Caller → Caller → Bool) (threads : Bool) (P : PlainPolicy) (store : Kept D) (lines : List Entry) (outcome : Outcome)
       (disk : D) (before now : Option Bytes) : Type 0 where
     pub closed : Kept D
     pub closes : Closes store closed disk
     pub marked : IsMarkedBy outcome closed.mark
-    pub ends : (G : History) → IsFront P store G → EndsRun sees P (whole G store) (whole G closed) lines before now outcome
+    pub answered : AreAnswered sees threads P store closed lines (IsToldBy lines before now outcome)

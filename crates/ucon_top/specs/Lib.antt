@@ -3,6 +3,7 @@ pub mod Closing
 pub mod Complete
 pub mod Ending
 pub mod Form
+pub mod Keeping
 pub mod Own
 pub mod OwnReading
 pub mod Played
@@ -12,6 +13,7 @@ pub mod Printed
 pub mod Ran
 pub mod Reading
 pub mod Seen
+pub mod Serial
 pub mod Stepping
 pub mod Telling
 pub mod Traits

@@ -15,7 +15,7 @@ use Rattle.ucon_syntax.specs.Policies.{accepted}
 use Rattle.ucon_top.specs.Accepted.{IsAcceptedBy, IsPolicyFault, IsRefusedSo, IsScriptFaultBy}
 use Rattle.ucon_top.specs.Complete.{IsFoundJournalBy, IsOwnJournalBy, IsUnhinderedBy}
 use Rattle.ucon_top.specs.Own.{IsOwnFileBy, IsOwnStateBy}
-use Rattle.ucon_top.specs.Played.{HasPlayedBy, HasPlayedInputBy, HasRunBy, IsFoundSinceBy, IsPlayedBy, IsRunOverBy, IsUnopenedBy}
+use Rattle.ucon_top.specs.Played.{HasPlayedBy, HasPlayedInputBy, IsFoundSinceBy, IsPlayedBy, IsRunOverBy, IsUnopenedBy}
 use Rattle.ucon_top.specs.Pointed.{HasNoPointBy, HasPointBy, HasPointedBy, HasPointedInputBy, IsPointOverBy, IsStillFoundBy, MayHavePointBy}
 use Rattle.ucon_store.specs.declared.fault.StoreFault.{StoreFault}
 use Rattle.ucon_top.specs.Telling.{ChecksBy, HasToldBy, HasToldInputBy, IsCheckedStateBy, IsOpenedStateBy, IsUncheckedBy, TellsBy, TellsNothingBy}
@@ -48,11 +48,7 @@ IsFoundSince = IsFoundSinceBy accepted
 abbrev pub IsPlayed : (Caller → Caller → Bool) → Bytes → PlainPolicy → Bytes → History → DiskSeen → DiskSeen → List Answered → Type 0
 IsPlayed = IsPlayedBy accepted
 
-abbrev pub HasRun : (Caller → Caller → Bool) → Bytes → PlainPolicy → List Entry → Bytes → History → DiskSeen → DiskSeen →
-    (List Entry → List Answered → Type 0) → Type 0
-HasRun = HasRunBy accepted
-
-abbrev pub IsRunOver : Form → Bytes → DiskSeen → DiskSeen → (List Entry → List Answered → Type 0) → Type 0
+abbrev pub IsRunOver : Form → Bytes → DiskSeen → DiskSeen → (List Answered → Type 0) → (List Entry → List Answered → Type 0) → Type 0
 IsRunOver = IsRunOverBy accepted
 
 abbrev pub HasPlayed : Form → Outcome → Bytes → DiskSeen → DiskSeen → SinkSeen → SinkSeen → Type 0
@@ -64,16 +60,17 @@ HasPlayedInput = HasPlayedInputBy accepted
 abbrev pub IsUnopened : StoreFault → Bytes → DiskSeen → DiskSeen → Type 0
 IsUnopened = IsUnopenedBy accepted
 
-abbrev pub IsStillFound : Bytes → Bytes → History → DiskSeen → DiskSeen → (Bytes → Bytes → Type 0) → Type 0
+abbrev pub IsStillFound : Bytes → Bytes → History → DiskSeen → DiskSeen → (may leaves : Bytes → Bytes → Type 0) → Type 0
 IsStillFound = IsStillFoundBy accepted
 
-abbrev pub IsPointOver : Bytes → DiskSeen → DiskSeen → (ℕ → Type 0) → (ℕ → Bytes → Bytes → Type 0) → (PlainPolicy → History → Type 0) → Type 0
+abbrev pub IsPointOver : Bytes → DiskSeen → DiskSeen → (PlainPolicy → ℕ → Trace → Type 0)
+    → (may leaves : ℕ → Bytes → Bytes → Type 0) → (PlainPolicy → History → Type 0) → Type 0
 IsPointOver = IsPointOverBy accepted
 
 abbrev pub HasPoint : Bytes → DiskSeen → DiskSeen → (Bytes → Type 0) → Type 0
 HasPoint = HasPointBy accepted
 
-abbrev pub HasNoPoint : Bytes → DiskSeen → DiskSeen → Type 0 → (PlainPolicy → History → Type 0) → Type 0
+abbrev pub HasNoPoint : Bytes → DiskSeen → DiskSeen → (PlainPolicy → ℕ → Trace → Type 0) → (PlainPolicy → History → Type 0) → Type 0
 HasNoPoint = HasNoPointBy accepted
 
 abbrev pub MayHavePoint : Bytes → DiskSeen → DiskSeen → Type 0

@@ -1,13 +1,16 @@
 -- What running a document over the disk of a journal leaves, and how it ends: in the order of the text, or each client in a thread of its own.
-use Rattle.std.specs.Prelude.{◌≡◌, ◌⊎◌, ℕ, Bool, List, [], ◌∷◌, ◌++◌, map, Option, Some, None, Ok, IsSome, IfSome, ⊤}
+use Rattle.std.specs.Prelude.{◌≡◌, ◌≢◌, ◌⊎◌, ℕ, Bool, List, [], ◌∷◌, ◌++◌, length, map, Option, Some, None, Ok, IsSome, IfSome, ⊤}
+use Rattle.std.specs.Bool.{OnFalse}
 use Rattle.std.specs.Io.KnownBytes.{Appends}
 use Rattle.ucon_flow.specs.Writing.{AppendsPrefix}
 use Rattle.ucon_disk.specs.Causes.{raised}
-use Rattle.ucon_disk.specs.Run.{IsAtRest, LeavesAfter, LeavesOnly}
+use Rattle.ucon_disk.specs.Run.{LeavesFrom, LeavesOnly}
+use Rattle.ucon_journal.specs.Opened.{opened}
 use Rattle.ucon_turn.specs.Lists.{Begins}
 use Rattle.ucon_model.specs.declared.command.Caller.{Caller}
 use Rattle.ucon_model.specs.declared.command.Entry.{Entry}
 use Rattle.ucon_model.specs.Document.{ScriptLine, document_read, entries_of, policy_part}
+use Rattle.ucon_model.specs.Action.{Trace}
 use Rattle.ucon_model.specs.Plain.{Bytes, PlainPolicy}
 use Rattle.ucon_model.specs.History.{History}
 use Rattle.ucon_model.specs.LegalRun.{Answered, IsLegalRun, history_made}
@@ -21,7 +24,10 @@ use Rattle.ucon_outcome.specs.declared.outcome.Outcome.{Outcome}
 use Rattle.ucon_outcome.specs.declared.outcome.Outcome.TheVariants.{Done, SinkFault, DiskFault, Damaged, NotJournal, NoMemory, OtherPolicy}
 use Rattle.ucon_top.specs.Accepted.{HasPolicy}
 use Rattle.ucon_top.specs.Form.{output_order, sees_by}
-use Rattle.ucon_top.specs.Own.{IsOwnFileBy}
+use Rattle.ucon_top.specs.Keeping.{KeepsFile}
+use Rattle.ucon_top.specs.Own.{IsOwnStateBy}
+use Rattle.ucon_top.specs.Serial.{AreSerialAfter}
+use Rattle.ucon_top.specs.Traits.{traits}
 use Rattle.ucon_trial.specs.Runs.{IsUnfaulted}
 use Rattle.ucon_top.specs.Stepping.{HaveOutput}
 use Rattle.ucon_disk.specs.Seen.{DiskSeen}
@@ -37,61 +43,69 @@ pub record IsFoundSinceBy (reads : PolicyReading) (text : Bytes) (opening H : Hi
   pub within : Begins history H ⊎ ((e : Entry) × (failed ≡ Some e) × (history ≡ H ++ e ∷ []))
 
 -- The answers are a legal run behind the history as which the file was found. If a line met a disk fault the disk's count rose by one, and
--- otherwise it didn't. If the disk was at rest, a crash at any moment since leaves a file that is found as a beginning of the history that is
--- made. That beginning has the opening history. Or the file is found as the whole history with the line that met a disk fault. At rest or not, a
--- crash now leaves one that is found as the whole, or as it with that line.
+-- otherwise it didn't. A crash at any moment since leaves what a crash could leave before, or a file that is found as a beginning of the history
+-- that is made. That beginning has the opening history. Or the file is found as the whole history with the line that met a disk fault. A crash now
+-- leaves one that is found as the whole, or as it with that line.
 pub record IsPlayedBy (reads : PolicyReading) (sees : Caller → Caller → Bool) (text : Bytes) (P : PlainPolicy) (file : Bytes) (opening : History)
     (old new : DiskSeen) (told : List Answered) : Type 0 where
   pub legal : IsLegalRun P sees opening told
   pub unfailed : failed_line told ≡ None → new.faults ≡ old.faults
   pub failed : (e : Entry) → failed_line told ≡ Some e → new.faults ≡ raised old.faults
-  pub since : IsAtRest old file
-      → LeavesOnly old new (IsFoundSinceBy reads text opening (history_made opening told) (failed_line told))
+  pub since : LeavesOnly old new (λ c. old.images c ⊎ IsFoundSinceBy reads text opening (history_made opening told) (failed_line told) c)
   pub now : (c : Bytes) → new.images c → IsFoundWithBy reads text (history_made opening told) (failed_line told) c
 
--- these lines were played behind a history, as which this file was found, and of the lines and their answers this is so
-pub record HasRunBy (reads : PolicyReading) (sees : Caller → Caller → Bool) (text : Bytes) (P : PlainPolicy) (lines : List Entry) (file : Bytes)
-    (opening : History) (old new : DiskSeen) (so : List Entry → List Answered → Type 0) : Type 0 where
-  pub told : List Answered
-  pub lines_are : map (λ t. t.line) told ≡ lines
-  pub played : IsPlayedBy reads sees text P file opening old new told
-  pub is_so : so lines told
+-- In the order of the text the lines were answered after a trace of so many entries. If a line met a disk fault the disk's count rose by one, and
+-- otherwise it didn't.
+pub record IsAnsweredInOrder (P : PlainPolicy) (T : Trace) (entries : ℕ) (old new : DiskSeen) (told : List Answered) : Type 0 where
+  pub serial : AreSerialAfter P T entries told
+  pub unfailed : failed_line told ≡ None → new.faults ≡ old.faults
+  pub failed : (e : Entry) → failed_line told ≡ Some e → new.faults ≡ raised old.faults
 
--- The bytes are an accepted document, and opening saw a fresh file, or a journal under the document's policy, if the disk told its file. If
--- the file is found as a history, the document's lines were played behind that. A file that opening alone accepts has none, and nothing is said
--- of the answers.
-pub record IsRunOverBy (reads : PolicyReading) (form : Form) (bytes : Bytes) (old new : DiskSeen)
+-- The bytes are an accepted document, and the document's lines were answered. Of the lines and their answers this is so, whatever the disk tells.
+-- If the disk told its file, opening saw a fresh one, or a journal under the document's policy, and in it so many entries, and what is there after
+-- these actions. Without threads the lines were answered after those, and the answers have these causes: so it is also of a file that opening
+-- alone accepts, and of a disk that tells nothing. The records of the file are kept. If it is found as a history, the lines were played behind
+-- that.
+pub record IsRunOverBy (reads : PolicyReading) (form : Form) (bytes : Bytes) (old new : DiskSeen) (causes : List Answered → Type 0)
     (so : List Entry → List Answered → Type 0) : Type 0 where
   pub policy : PlainPolicy
   pub lines : List ScriptLine
   pub has_policy : HasPolicy bytes policy
   pub says : document_read reads bytes ≡ Ok lines
   pub entries : ℕ
-  pub own : IfSome old.contents (IsOwnFileBy reads (policy_part bytes) entries)
+  pub actions : Trace
+  pub own : IfSome old.contents (IsOwnStateBy reads (policy_part bytes) policy entries actions)
+  pub keeps : KeepsFile old new
+  pub told : List Answered
+  pub lines_are : map (λ t. t.line) told ≡ output_order form (entries_of lines)
+  pub is_so : so (output_order form (entries_of lines)) told
+  pub serial : OnFalse (traits form).threads (IsAnsweredInOrder policy actions entries old new told × causes told)
   pub run : (file : Bytes) (opening : History) → old.contents ≡ Some file → IsFoundBy reads (policy_part bytes) file opening
-      → HasRunBy reads (sees_by form) (policy_part bytes) policy (output_order form (entries_of lines)) file opening old new so
+      → (length opening ≡ entries) × IsPlayedBy reads (sees_by form) (policy_part bytes) policy file opening old new told × causes told
 
--- the journal wasn't opened for this reason, and what was found in its file is still found there; a foreign file is as it was
+-- The journal wasn't opened for this reason. But for a disk fault the file is as it was; one of at most nine bytes is a journal without a record. A
+-- crash leaves what it could leave before, or a file in which what was found is still found, and which is as it was if it is foreign.
 pub record IsUnopenedBy (reads : PolicyReading) (fault : StoreFault) (text : Bytes) (old new : DiskSeen) : Type 0 where
   pub reason : HasReasonBy reads fault text old.contents old.faults new.faults
-  pub images_kept : LeavesAfter old new (OpensBy reads text)
+  pub as_it_was : fault ≢ stores.DiskFault → IfSome old.contents (λ file. new.contents ≡ Some (opened file))
+  pub images_kept : LeavesFrom old new (OpensBy reads text)
 
 -- What holds of the disk, and of the sink, by how playing ended. Otherwise than by the causes named here it made no call of the disk.
 abbrev pub HasPlayedBy : PolicyReading → Form → Outcome → Bytes → DiskSeen → DiskSeen → SinkSeen → SinkSeen → Type 0
-HasPlayedBy reads form Done bytes old new before now = IsRunOverBy reads form bytes old new
-    (λ lines told. (failed_line told ≡ None) × IsUnfaulted told × HaveOutput (Appends before.contents now.contents) lines told)
+HasPlayedBy reads form Done bytes old new before now =
+    IsRunOverBy reads form bytes old new (λ told. (failed_line told ≡ None) × IsUnfaulted told) (HaveOutput (Appends before.contents now.contents))
     × (new.faults ≡ old.faults)
 HasPlayedBy reads form SinkFault bytes old new before now =
-    IsRunOverBy reads form bytes old new (HaveOutput (AppendsPrefix before.contents now.contents))
+    IsRunOverBy reads form bytes old new (λ told. ⊤) (HaveOutput (AppendsPrefix before.contents now.contents))
 HasPlayedBy reads form DiskFault bytes old new before now =
-    IsRunOverBy reads form bytes old new (λ lines told. IsSome (failed_line told) × HaveOutput (Appends before.contents now.contents) lines told)
+    IsRunOverBy reads form bytes old new (λ told. IsSome (failed_line told)) (HaveOutput (Appends before.contents now.contents))
     ⊎ (IsUnopenedBy reads stores.DiskFault (policy_part bytes) old new × (now ≡ before))
 HasPlayedBy reads form NotJournal bytes old new before now = IsUnopenedBy reads stores.NotJournal (policy_part bytes) old new
 HasPlayedBy reads form (Damaged number place) bytes old new before now = IsUnopenedBy reads (stores.Damaged number place) (policy_part bytes) old new
 HasPlayedBy reads form (OtherPolicy place) bytes old new before now = IsUnopenedBy reads (stores.OtherPolicy place) (policy_part bytes) old new
 HasPlayedBy reads form (NoMemory e) bytes old new before now =
     IsAsBefore old new ⊎ IsUnopenedBy reads (stores.NoMemory e) (policy_part bytes) old new
-    ⊎ IsRunOverBy reads form bytes old new (λ lines told. ⊤)
+    ⊎ IsRunOverBy reads form bytes old new (λ told. ⊤) (λ lines told. ⊤)
 HasPlayedBy reads form outcome bytes old new before now = IsAsBefore old new
 
 -- so it was played over some bytes, which are those of the input if the source tells them

@@ -4,6 +4,7 @@ use Rattle.std.specs.Io.KnownBytes.{Appends}
 use Rattle.ucon_disk.specs.Causes.{raised}
 use Rattle.ucon_disk.specs.Run.{LeavesOnly}
 use Rattle.ucon_flow.specs.Writing.{AppendsPrefix}
+use Rattle.ucon_model.specs.Action.{Trace}
 use Rattle.ucon_model.specs.History.{History}
 use Rattle.ucon_model.specs.Plain.{Bytes, PlainPolicy}
 use Rattle.ucon_store.specs.Found.{IsFoundAs}
@@ -11,10 +12,11 @@ use Rattle.ucon_store.specs.Kept.{Kept}
 use Rattle.ucon_store.specs.Whole.{IsFounded, whole}
 use Rattle.ucon_store.specs.Pointing.{IsFoundPointed}
 use Rattle.ucon_store.specs.Points.{has_points, point_places}
+use Rattle.ucon_store.specs.Starts.{IsStart, checkpoint_behind}
 use Rattle.ucon_outcome.specs.declared.outcome.Outcome.{Outcome}
 use Rattle.ucon_outcome.specs.declared.outcome.Outcome.TheVariants.{Done, SinkFault, DiskFault, NoMemory, FullPoint, OldJournal}
 use Rattle.ucon_outcome.specs.Ending.{ending}
-use Rattle.ucon_top.specs.Pointed.{FitsRecord, IsCheckpointSize, IsPointedAt, point_line}
+use Rattle.ucon_top.specs.Pointed.{FitsRecord, IsPointedAt, point_line}
 use Rattle.ucon_disk.specs.Seen.{DiskSeen}
 
 -- how it may end
@@ -53,8 +55,9 @@ module _ {D : Type 0} (seen : D → DiskSeen) where
     EndsPoint SinkFault = IsPut P store disk × AppendsPrefix before now (point_line (store.before + length store.entries))
     EndsPoint DiskFault = BehindEach P store (λ s. LeavesPointed s disk) × ((seen disk).faults ≡ raised (seen store.disk).faults)
     EndsPoint (NoMemory e) = disk ≡ store.disk
-    EndsPoint (FullPoint size) =
-        (disk ≡ store.disk) × MayHavePoints store × (16777215 < size) × BehindEach P store (λ s. IsCheckpointSize s.policy P s.entries size)
+    EndsPoint (FullPoint size) = (disk ≡ store.disk) × MayHavePoints store × (16777215 < size)
+        × ((T : Trace) → IsStart P store.point store.before T
+        → size ≡ length (checkpoint_behind store.policy store.point store.before P T store.entries))
     EndsPoint OldJournal = (disk ≡ store.disk) × IfSome (seen store.disk).contents (λ file. has_points file ≡ false)
     EndsPoint outcome = ⊥
 

@@ -1,15 +1,21 @@
 -- What lines are answered over a store.
-use Rattle.std.specs.Prelude.{◌≡◌, ◌⊎◌, Bool, IsTrue, IsSome, List, [], ◌∷◌, map, Option, Some, None}
+use Rattle.std.specs.Prelude.{◌≡◌, ◌⊎◌, ℕ, ◌+◌, Bool, IsTrue, IsSome, List, [], ◌∷◌, length, map, Option, Some, None}
+use Rattle.std.specs.Bool.{OnFalse}
 use Rattle.ucon_model.specs.declared.command.Caller.{Caller}
 use Rattle.ucon_model.specs.declared.command.Entry.{Entry}
+use Rattle.ucon_model.specs.Action.{Trace}
+use Rattle.ucon_model.specs.Block.{reply}
 use Rattle.ucon_model.specs.Plain.{Bytes, PlainPolicy}
-use Rattle.ucon_model.specs.History.{said, changes}
+use Rattle.ucon_model.specs.History.{History, said, changes}
 use Rattle.ucon_model.specs.LegalRun.{Answer, Answered, disk_fault, stopped, IsLegalRun, IsNext, history_after, history_made}
 use Rattle.ucon_model.specs.Output.{output, answers_read}
 use Rattle.ucon_model.specs.StoredRun.{LeadsTo, failed_line}
 use Rattle.ucon_store.specs.Kept.{Kept}
 use Rattle.ucon_store.specs.Marks.{marked}
+use Rattle.ucon_store.specs.Starts.{IsStart}
+use Rattle.ucon_store.specs.Whole.{IsFront, trace_behind, whole}
 use Rattle.ucon_top.specs.declared.line_answer.AnsweredLine.{AnsweredLine}
+use Rattle.ucon_top.specs.Serial.{AreSerialAfter, IsNextAfter, count_after, count_behind, trace_after, trace_beyond}
 use Rattle.ucon_client.specs.Answers.{answer_of}
 use Rattle.ucon_trial.specs.OneAnswer.{entry_of}
 
@@ -50,6 +56,44 @@ pub record HaveSteps {D : Type 0} (P : PlainPolicy) (old new : Kept D) (lines : 
   pub mark : new.mark ≡ marked failed
   pub leads : LeadsTo P old.entries told new.entries failed
 
+-- ---- behind a trace that leads to where the store begins
+
+-- how many entries there are, those before the store's own among them
+abbrev pub entries_of_all : {D : Type 0} → Kept D → ℕ
+entries_of_all s = s.before + length s.entries
+
+-- no step has failed, and the answer is the next one after the trace and the store's entries
+pub record IsAnsweredAfter {D : Type 0} (P : PlainPolicy) (T : Trace) (old new : Kept D) (e : Entry) (a : Answer) : Type 0 where
+  pub unmarked : old.mark ≡ None
+  pub next : IsNextAfter P (trace_behind P T old) (entries_of_all old) e a
+  pub trace_is : trace_behind P T new ≡ trace_after P (trace_behind P T old) e a
+  pub count : entries_of_all new ≡ count_after (entries_of_all old) a
+  pub mark : new.mark ≡ None
+
+-- the step would have changed something there, and met a disk fault
+pub record FailsAfter {D : Type 0} (P : PlainPolicy) (T : Trace) (old new : Kept D) (e : Entry) (a : Answer) : Type 0 where
+  pub unmarked : old.mark ≡ None
+  pub answer : a ≡ disk_fault
+  pub would_change : IsTrue (changes (reply P (trace_behind P T old) e.caller e.command))
+  pub mark : new.mark ≡ Some (e ∷ [])
+
+-- a line was answered so
+abbrev pub StepsAfter : {D : Type 0} → PlainPolicy → Trace → Kept D → Kept D → Entry → Answer → Type 0
+StepsAfter P T old new e a = IsAnsweredAfter P T old new e a ⊎ FailsAfter P T old new e a ⊎ IsStopped old new a
+
+-- lines were answered so, from a store to a store, whose mark is that of the line that met a disk fault, if one did
+pub record AreAnsweredAfter {D : Type 0} (P : PlainPolicy) (T : Trace) (old new : Kept D) (told : List Answered) : Type 0 where
+  pub serial : AreSerialAfter P (trace_behind P T old) (entries_of_all old) told
+  pub mark : new.mark ≡ marked (failed_line told)
+
+-- and a store without a mark is where the answers lead
+pub record HaveStepsAfter {D : Type 0} (P : PlainPolicy) (T : Trace) (old new : Kept D) (told : List Answered) : Type 0 where
+  pub answers : AreAnsweredAfter P T old new told
+  pub trace_is : new.mark ≡ None → trace_behind P T new ≡ trace_beyond P (trace_behind P T old) told
+  pub count : new.mark ≡ None → entries_of_all new ≡ count_behind (entries_of_all old) told
+
+-- ---- a run over a store
+
 -- The answers are a legal run behind a store's history, where `sees` tells whose earlier answers a caller saw, and they make another store's
 -- history and mark.
 pub record IsRunBetween {D : Type 0} (sees : Caller → Caller → Bool) (P : PlainPolicy) (old new : Kept D) (told : List Answered) : Type 0 where
@@ -57,11 +101,14 @@ pub record IsRunBetween {D : Type 0} (sees : Caller → Caller → Bool) (P : Pl
   pub made : history_made old.entries told ≡ new.entries
   pub failed : new.mark ≡ marked (failed_line told)
 
--- these lines were answered by such a run, and of their answers this is so
-pub record AreAnswered {D : Type 0} (sees : Caller → Caller → Bool) (P : PlainPolicy) (old new : Kept D) (lines : List Entry) (so : List Answered → Type 0) : Type 0 where
+-- These lines were answered, and of their answers this is so. Behind each history that leads to where the store begins they are such a run. If no
+-- threads answered them, they are so in the order of the text behind each trace that leads there.
+pub record AreAnswered {D : Type 0} (sees : Caller → Caller → Bool) (threads : Bool) (P : PlainPolicy) (old new : Kept D) (lines : List Entry)
+    (so : List Answered → Type 0) : Type 0 where
   pub told : List Answered
   pub lines_are : map (λ t. t.line) told ≡ lines
-  pub run : IsRunBetween sees P old new told
+  pub serial : OnFalse threads ((T : Trace) → IsStart P old.point old.before T → AreAnsweredAfter P T old new told)
+  pub run : (G : History) → IsFront P old G → IsRunBetween sees P (whole G old) (whole G new) told
   pub is_so : so told
 
 -- the answers of these lines are read back from their output, of which this is so

@@ -5,7 +5,7 @@ use Rattle.ucon_audit.specs.Audited.{IsPrintedBy, audit_spelling}
 use Rattle.ucon_audit.specs.Refusing.{IsRefusedBy}
 use Rattle.ucon_audit.specs.Report.{line_of, tree}
 use Rattle.ucon_disk.specs.Disk.{Only}
-use Rattle.ucon_disk.specs.Run.{LeavesAfter}
+use Rattle.ucon_disk.specs.Run.{LeavesFrom}
 use Rattle.ucon_disk.specs.Seen.{DiskSeen}
 use Rattle.ucon_explain.specs.Text.{try_spelling}
 use Rattle.ucon_flow.specs.Seen.{SinkSeen}
@@ -18,23 +18,20 @@ use Rattle.ucon_model.specs.Plain.{Bytes, PlainPolicy}
 use Rattle.ucon_store.specs.declared.fault.StoreFault.{StoreFault}
 use Rattle.ucon_store.specs.declared.fault.StoreFault.TheVariants as stores
 use Rattle.ucon_store.specs.Found.{IsFoundBy}
-use Rattle.ucon_store.specs.Points.{point_places, PolicyReading}
+use Rattle.ucon_store.specs.Points.{PolicyReading}
 use Rattle.ucon_outcome.specs.declared.outcome.Outcome.{Outcome}
 use Rattle.ucon_outcome.specs.declared.outcome.Outcome.TheVariants.{Done, SinkFault, DiskFault, Damaged, NotJournal, NoMemory, OtherPolicy}
 use Rattle.ucon_top.specs.declared.form.Form.{Form}
 use Rattle.ucon_top.specs.declared.form.Form.TheVariants.{Audit, Report, Explain}
 use Rattle.ucon_top.specs.Accepted.{HasPolicy}
+use Rattle.ucon_top.specs.Keeping.{KeepsFile}
 use Rattle.ucon_top.specs.Own.{IsOwnStateBy}
 use Rattle.ucon_top.specs.Played.{IsUnopenedBy}
-use Rattle.ucon_top.specs.Pointed.{IsStillFoundBy}
+use Rattle.ucon_top.specs.Pointed.{HasItsPoints, IsStillFoundBy}
 use Rattle.ucon_top.specs.Seen.{IsAsBefore}
 
--- an image has the checkpoints of the opening file
-abbrev pub HasItsPoints : (opening image : Bytes) → Type 0
-HasItsPoints opening image = point_places image ≡ point_places opening
-
 -- The bytes are those of a document whose policy is accepted. If the disk told its file, opening saw in it, under that policy, so many entries and
--- what is there after a trace, and of the trace this is so. If the file is found as a history, that has as many entries. The file is still found
+-- what is there after a trace, and of the trace this is so. Its records are kept. If it is found as a history, that has as many entries. It is still found
 -- as it, with its checkpoints where they were, and the same is so of the history's trace. A file that opening alone accepts has none.
 pub record IsOpenedStateBy (reads : PolicyReading) (bytes : Bytes) (old new : DiskSeen) (so : PlainPolicy → Trace → Type 0) : Type 0 where
   pub policy : PlainPolicy
@@ -43,8 +40,9 @@ pub record IsOpenedStateBy (reads : PolicyReading) (bytes : Bytes) (old new : Di
   pub actions : Trace
   pub own : IfSome old.contents (IsOwnStateBy reads (policy_part bytes) policy entries actions)
   pub is_so : so policy actions
+  pub keeps : KeepsFile old new
   pub still : (file : Bytes) (opening : History) → old.contents ≡ Some file → IsFoundBy reads (policy_part bytes) file opening
-      → (length opening ≡ entries) × IsStillFoundBy reads (policy_part bytes) file opening old new HasItsPoints × so policy (trace policy opening)
+      → (length opening ≡ entries) × IsStillFoundBy reads (policy_part bytes) file opening old new HasItsPoints HasItsPoints × so policy (trace policy opening)
 
 -- The bytes are those of a document whose policy is accepted. Where the disk told its file, that is found as a history under that policy, and of both
 -- this is so. The file is as it was, and a crash leaves nothing else; one of at most nine bytes is a journal without a record. So the file is still
@@ -55,22 +53,22 @@ pub record IsCheckedStateBy (reads : PolicyReading) (bytes : Bytes) (old new : D
   pub found : IfSome old.contents (IsPrintedBy reads (policy_part bytes) so)
   pub as_it_was : new.contents ≡ option_map opened old.contents
   pub at_rest : Only new.contents new.images
-  pub images_kept : LeavesAfter old new Untouched
+  pub images_kept : LeavesFrom old new Untouched
   pub still : (file : Bytes) (opening : History) → old.contents ≡ Some file → IsFoundBy reads (policy_part bytes) file opening
-      → IsStillFoundBy reads (policy_part bytes) file opening old new HasItsPoints
+      → IsStillFoundBy reads (policy_part bytes) file opening old new HasItsPoints HasItsPoints
 
 -- What a full check under the policy of this text may make of a file: what was found is still found. Where nothing was, the file is as it was.
 pub record ChecksBy (reads : PolicyReading) (text file c : Bytes) : Type 0 where
   pub same : (H : History) → IsFoundBy reads text file H → IsFoundBy reads text c H
   pub untouched : ((H : History) → IsFoundBy reads text file H → ⊥) → c ≡ file
 
--- A full check refuses the journal for this reason. But for a disk fault the file is as it was, where the disk told it; and a crash of a disk at rest
--- leaves what was there before, in which the same is found.
+-- A full check refuses the journal for this reason. But for a disk fault the file is as it was, where the disk told it; and a crash leaves what it
+-- could leave before, or the file, in which the same is found.
 pub record IsUncheckedBy (reads : PolicyReading) (fault : StoreFault) (text : Bytes) (old new : DiskSeen) : Type 0 where
   pub reason : IsRefusedBy reads fault text old.contents old.faults new.faults
   pub as_it_was : fault ≢ stores.DiskFault → IfSome old.contents (λ file. new.contents ≡ Some (opened file))
-  pub images_kept : LeavesAfter old new Untouched
-  pub still : LeavesAfter old new (ChecksBy reads text)
+  pub images_kept : LeavesFrom old new Untouched
+  pub still : LeavesFrom old new (ChecksBy reads text)
 
 -- ---- by the form
 

@@ -2,8 +2,10 @@
 
 ghost use Rattle.std.specs.Prelude.{◌≡◌, ◌⊎◌, ◌≤◌, ◌+◌, false, length, None, Some, IfOk, IfErr};
 ghost use Rattle.ucon_disk.specs.Causes.{raised};
+ghost use Rattle.ucon_disk.specs.Run.{LeavesAfter};
 ghost use Rattle.ucon_model.specs.Action.{Trace};
 ghost use Rattle.ucon_model.specs.Plain.{PlainPolicy};
+ghost use Rattle.ucon_store.specs.Keeping.{GrowsFrom};
 ghost use Rattle.ucon_store.specs.Starts.{IsStart};
 ghost use Rattle.ucon_syntax.specs.Policies.{accepted};
 ghost use Rattle.ucon_top.specs.Closing.{IsWritten};
@@ -19,7 +21,7 @@ use ucon_engine::Engine;
 use ucon_flow::Sink;
 use ucon_outcome::{Ended, Outcome, put_point_line};
 use ucon_script::policy_part;
-use ucon_store::Store;
+use ucon_store::{Store, checkpoints_of_traces_are_read_back};
 use ucon_syntax::accepted_texts_spell_typed_policies;
 
 /// Writes a checkpoint of the journal on the disk, under the policy of the document that the bytes are, and then the line that tells of it. The
@@ -43,6 +45,7 @@ pub fn point<E: Engine, K: Sink, D: Disk>(
     ensures unwritten { IsUnwritten result.outcome → out.new ≡ out.old }
 {
     accepted_texts_spell_typed_policies();
+    checkpoints_of_traces_are_read_back();
     let _script = match read_accepted(alloc, bytes) {
         Ok(script) => script,
         Err(refused) => return Ended::by(Outcome::from(refused), disk),
@@ -65,6 +68,7 @@ fn point_opened<E: Engine, K: Sink, D: Disk>(
     ensures ends { (P : PlainPolicy) (T : Trace) → accepted store.policy ≡ Some P → IsStart P store.point store.before T
         → EndsPoint D.seen P store result.disk (K.seen out.old).contents (K.seen out.new).contents
         result.outcome }
+    ensures grows { LeavesAfter (D.seen store.disk) (D.seen result.disk) GrowsFrom }
     ensures sink { IsCounted result.outcome Outcome.SinkFault (K.seen out.old).faults (K.seen out.new).faults }
     ensures unwritten { IsUnwritten result.outcome → out.new ≡ out.old }
     ensures failed { result.outcome ≡ Outcome.DiskFault → out.new ≡ out.old }
@@ -83,6 +87,8 @@ fn put_point<E: Engine, D: Disk>(
     requires { store.mark ≡ None }
     ensures entries { IfOk result (λ r. r.1 ≡ store.before + length store.entries) }
     ensures put { IfOk result (λ r. (P : PlainPolicy) → IsPut D.seen P store r.0) }
+    ensures grows_put { IfOk result (λ r. LeavesAfter (D.seen store.disk) (D.seen r.0) GrowsFrom) }
+    ensures grows { IfErr result (λ e. LeavesAfter (D.seen store.disk) (D.seen e.0) GrowsFrom) }
     ensures of_none { IfErr result (λ e. IsOfNoPoint e.1) }
     ensures ends { IfErr result (λ e. (P : PlainPolicy) (T : Trace) → accepted store.policy ≡ Some P → IsStart P store.point store.before T
         → EndsPoint D.seen P store e.0 None None e.1) }

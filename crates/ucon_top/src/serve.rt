@@ -107,7 +107,7 @@ fn serve_lines<E: Engine + Send, K: Sink, D: Disk + Send, G: Gate + Sync, R: Thr
     ensures status { result.status ≡ status_of result.outcome }
     ensures of_run { IsOfRun result.outcome }
     ensures run { (P : PlainPolicy) → accepted store.policy ≡ Some P
-        → IsClosedRun D.seen own_answers P store (by_client (map entry_of lines.now))
+        → IsClosedRun D.seen own_answers true P store (by_client (map entry_of lines.now))
         result.outcome result.disk (K.seen out.old).contents (K.seen out.new).contents }
     ensures sink { IsCounted result.outcome Outcome.SinkFault (K.seen out.old).faults (K.seen out.new).faults }
     ensures unwritten { IsUnwritten result.outcome → out.new ≡ out.old }
@@ -140,7 +140,7 @@ fn end_served<E: Engine, K: Sink, D: Disk>(
     ensures of_run { IsOfRun result.outcome }
     ensures run { (P : PlainPolicy) (opened : Kept D) → Stays D.seen opened store
         → ((H : History) → IsFront P opened H → IsRunBetween own_answers P (whole H opened) (whole H store) (told_in parts.now))
-        → IsClosedRun D.seen own_answers P opened (map (λ t. t.line) (told_in parts.now))
+        → IsClosedRun D.seen own_answers true P opened (map (λ t. t.line) (told_in parts.now))
         result.outcome result.disk (K.seen out.old).contents (K.seen out.new).contents }
     ensures sink { IsCounted result.outcome Outcome.SinkFault (K.seen out.old).faults (K.seen out.new).faults }
     ensures unwritten { IsUnwritten result.outcome → out.new ≡ out.old }

@@ -1,6 +1,6 @@
 use Rattle.std.proofs.Common.{◌≡◌, sym, ap, subst}
 use Rattle.std.specs.Prelude.{option_map, IfSome}
-use Rattle.ucon_disk.specs.Run.{LeavesAfter}
+use Rattle.ucon_disk.specs.Run.{LeavesFrom}
 use Rattle.ucon_journal.specs.Journal.{disk_of}
 use Rattle.ucon_journal.specs.Opened.{Untouched, opened}
 use Rattle.ucon_model.specs.Plain.{Bytes}
@@ -34,16 +34,16 @@ returns-in-Err-check_records-clause-refused g c =
 pub returns-in-Err-check_records-clause-images_err : goal.returns-in-Err-check_records-clause-images_err
 returns-in-Err-check_records-clause-images_err g c =
     let seen = g.D.Disk.seen in
-    subst (λ (d : g.row.D.Denot). LeavesAfter (seen c.args.disk) (seen d) Untouched) (sym c.close.ensures)
+    subst (λ (d : g.row.D.Denot). LeavesFrom (seen c.args.disk) (seen d) Untouched) (sym c.close.ensures)
     (only_read seen c.args.disk (disk_of c.in-Ok.journal) (disk_of c.check_records.new.journal) c.in-Ok.ensures.bytes c.in-Ok.ensures.only
-    c.in-Ok.ensures.images c.check_records.ensures.run)
+    c.in-Ok.ensures.since c.check_records.ensures.run)
 
 pub returns-in-Ok-check_records-clause-images : goal.returns-in-Ok-check_records-clause-images
 returns-in-Ok-check_records-clause-images g c =
     let seen = g.D.Disk.seen in
-    subst (λ (d : g.row.D.Denot). LeavesAfter (seen c.args.disk) (seen d) Untouched) (sym c.close-in-Ok-check_records.ensures)
+    subst (λ (d : g.row.D.Denot). LeavesFrom (seen c.args.disk) (seen d) Untouched) (sym c.close-in-Ok-check_records.ensures)
     (only_read seen c.args.disk (disk_of c.in-Ok.journal) (disk_of c.check_records.new.journal) c.in-Ok.ensures.bytes c.in-Ok.ensures.only
-    c.in-Ok.ensures.images c.check_records.ensures.run)
+    c.in-Ok.ensures.since c.check_records.ensures.run)
 
 pub returns-in-Ok-check_records-clause-audited : goal.returns-in-Ok-check_records-clause-audited
 returns-in-Ok-check_records-clause-audited g c =

@@ -1,12 +1,12 @@
-use Rattle.std.proofs.Common.{rules, ◌≡◌, map, sym, subst, ◌∙◌}
+use Rattle.std.proofs.Common.{rules, ◌≡◌, false, map, sym, subst, ◌∙◌}
 use Rattle.std.specs.Prelude.{is_some}
 use Rattle.ucon_model.specs.LegalRun.{in_text_order}
 use Rattle.ucon_model.specs.Plain.{Bytes}
 use Rattle.ucon_outcome.specs.declared.outcome.Outcome.{Outcome}
 use Rattle.ucon_outcome.specs.declared.outcome.Outcome.TheVariants.{SinkFault}
 use Rattle.ucon_top.specs.Ending.{IsCounted}
-use Rattle.ucon_top.specs.Closing.{EndsRun, IsMarkedBy, IsWritten}
-use Rattle.ucon_store.specs.Whole.{whole}
+use Rattle.ucon_top.specs.Closing.{IsMarkedBy, IsToldBy, IsWritten}
+use Rattle.ucon_top.specs.Stepping.{AreAnswered}
 use Rattle.ucon_trial.specs.OneAnswer.{entry_of}
 use Rattle.ucon_top.proofs.Closing.{counted, ends_so, marked_so}
 use Rattle.ucon_top.proofs.play.play_lines.Goals as goal
@@ -32,8 +32,8 @@ returns-in-Ok-clause-run g c = λ P accepts.
       };
       marked = subst (λ (o : Outcome). IsMarkedBy o closed.mark) (sym c.by.ensures.outcome)
           (marked_so c.write_output.result closed.mark c.in-Ok.text.items stopped before now failed fails is_stopped written);
-      ends = λ G front. subst (λ (o : Outcome). EndsRun in_text_order P (whole G store) (whole G closed) lines before now o) (sym c.by.ensures.outcome)
-          (ends_so in_text_order P (whole G store) (whole G closed) lines c.in-Ok.text.items stopped before now failed fails (c.in-Ok.ensures.text P G accepts front) is_stopped c.write_output.result written);
+      answered = subst (λ (o : Outcome). AreAnswered in_text_order false P store closed lines (IsToldBy lines before now o)) (sym c.by.ensures.outcome)
+          (ends_so in_text_order false P store closed lines c.in-Ok.text.items stopped before now failed fails (c.in-Ok.ensures.text P accepts) c.write_output.result written);
     }
 
 pub returns-in-Err-clause-run : goal.returns-in-Err-clause-run
@@ -49,7 +49,8 @@ returns-in-Err-clause-run g c = λ P accepts.
         disk_is = c.by-in-Err.ensures.disk ∙ c.close-disk.ensures.disk;
       };
       marked = subst (λ (o : Outcome). IsMarkedBy o closed.mark) (sym c.by-in-Err.ensures.outcome) tt;
-      ends = λ G front. subst (λ (o : Outcome). EndsRun in_text_order P (whole G store) (whole G closed) lines before before o) (sym c.by-in-Err.ensures.outcome) (c.in-Err.ensures.no_memory P G accepts front);
+      answered = subst (λ (o : Outcome). AreAnswered in_text_order false P store closed lines (IsToldBy lines before before o)) (sym c.by-in-Err.ensures.outcome)
+          (c.in-Err.ensures.no_memory P accepts);
     }
 
 pub returns-in-Ok-clause-sink : goal.returns-in-Ok-clause-sink

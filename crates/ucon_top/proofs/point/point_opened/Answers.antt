@@ -35,3 +35,9 @@ pub returns-in-Ok-clause-sink : goal.returns-in-Ok-clause-sink
 returns-in-Ok-clause-sink g c =
     subst (λ (o : Outcome). IsCounted o SinkFault (g.K.Sink.seen c.args.out.now).faults (g.K.Sink.seen c.tell_point.new.out).faults) (sym c.by.ensures.outcome)
     (counted c.tell_point.result _ _ _ _ _ _ c.tell_point.ensures)
+
+pub returns-in-Ok-clause-grows : goal.returns-in-Ok-clause-grows
+returns-in-Ok-clause-grows g c = rw c.by.ensures.disk c.in-Ok.ensures.grows_put
+
+pub returns-in-Err-clause-grows : goal.returns-in-Err-clause-grows
+returns-in-Err-clause-grows g c = rw c.by-in-Err.ensures.disk c.in-Err.ensures.grows

@@ -1,6 +1,7 @@
 use Rattle.std.proofs.Common.{◌++◌, None, Err, sym, ap, ◌∙◌, subst}
-use Rattle.ucon_disk.specs.Run.{LeavesOnly}
+use Rattle.ucon_disk.specs.Run.{LeavesAfter, LeavesOnly}
 use Rattle.ucon_model.specs.History.{trace}
+use Rattle.ucon_store.specs.Keeping.{GrowsFrom}
 use Rattle.ucon_store.specs.Pointing.{IsFoundPointed}
 use Rattle.ucon_store.specs.Points.{point_places}
 use Rattle.ucon_outcome.specs.declared.outcome.Outcome.{Outcome}
@@ -35,3 +36,13 @@ returns-in-Err-clause-ends g c = λ P T accepts starts.
     (λ G f file is. subst (λ d. LeavesOnly (seen store.disk) (seen d) (IsFoundPointed store.policy (G ++ store.entries) (point_places file))) (sym closed)
     (point.inside P G file f is))
     (λ is. ap (λ d. (seen d).faults) closed ∙ (point.failed (c.in-Err.is ∙ ap Err is)).rose))
+
+pub returns-in-Ok-clause-grows_put : goal.returns-in-Ok-clause-grows_put
+returns-in-Ok-clause-grows_put g c =
+    let seen = g.D.Disk.seen in
+    subst (λ d. LeavesAfter (seen c.args.store.disk) (seen d) GrowsFrom) (sym c.close-disk.ensures.disk) c.point-pointed.ensures.stays.grows
+
+pub returns-in-Err-clause-grows : goal.returns-in-Err-clause-grows
+returns-in-Err-clause-grows g c =
+    let seen = g.D.Disk.seen in
+    subst (λ d. LeavesAfter (seen c.args.store.disk) (seen d) GrowsFrom) (sym c.close-disk.ensures.disk) c.point-pointed.ensures.stays.grows

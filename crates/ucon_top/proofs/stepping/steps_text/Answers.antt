@@ -1,4 +1,4 @@
-use Rattle.std.proofs.Common.{map, sym, subst}
+use Rattle.std.proofs.Common.{false, map, sym, subst}
 use Rattle.std.specs.Prelude.{Result, Ok, Err, OnErr, ⊤}
 use Rattle.ucon_model.specs.LegalRun.{in_text_order}
 use Rattle.ucon_store.specs.Kept.{Kept}
@@ -9,15 +9,18 @@ use Rattle.ucon_top.proofs.Answering.{AreLegal, run_of_steps, text_read, unanswe
 use Rattle.ucon_top.proofs.stepping.steps_text.Goals as goal
 
 pub returns-clause-text : goal.returns-clause-text
-returns-clause-text g c = λ P G accepts front.
+returns-clause-text g c = λ P accepts.
     let answers = c.in_ok-text.ensures in
     let law = c.runs_over_a_store_are_legal.ensures in
     let laws : AreLegal = record { legal = law.legal; made = law.made; failed = law.failed } in
     let lines = map entry_of c.args.lines.now in
     let told = map told_line c.in_ok-answered.answered.items in
-    let steps = c.in_ok-answered.ensures.steps P G accepts front in
-    text_read in_text_order P (whole G c.args.store.now) (whole G c.answer_lines.new.store) lines told steps.lines_are
-    (run_of_steps laws P (whole G c.args.store.now) (whole G c.answer_lines.new.store) lines told steps) c.outputs_are_read_back.ensures _
+    let old = c.args.store.now in
+    let new = c.answer_lines.new.store in
+    text_read in_text_order false P old new lines told c.in_ok-answered.ensures.lines
+    (λ T starts. (c.in_ok-answered.ensures.serial P T accepts starts).answers)
+    (λ G front. run_of_steps laws P (whole G old) (whole G new) lines told (c.in_ok-answered.ensures.steps P G accepts front))
+    c.outputs_are_read_back.ensures _
     (rw c.slice.ensures at answers.text) (rw c.slice.ensures at answers.fits) (rw c.slice.ensures at answers.clients)
 
 on_err : {T E : Type 0} (r : Result T E) (P : Type 0) → P → OnErr r P
@@ -30,9 +33,9 @@ returns-in_err-answered-clause-no_memory g c =
     let laws : AreLegal = record { legal = law.legal; made = law.made; failed = law.failed } in
     let lines = map entry_of c.args.lines.now in
     let old = c.args.store.now in
-    on_err c.from_residual.result _ (λ P G accepts front.
-    subst (λ (new : Kept g.row.D.Denot). AreAnswered in_text_order P (whole G old) (whole G new) lines (λ told. ⊤)) (sym c.in_err-answered.ensures.err)
-    (unanswered laws P in_text_order (whole G old) lines c.requires))
+    on_err c.from_residual.result _ (λ P accepts.
+    subst (λ (new : Kept g.row.D.Denot). AreAnswered in_text_order false P old new lines (λ told. ⊤)) (sym c.in_err-answered.ensures.err)
+    (unanswered laws P in_text_order false old lines c.requires))
 
 pub returns-in_err-text-clause-no_memory : goal.returns-in_err-text-clause-no_memory
 returns-in_err-text-clause-no_memory g c =
@@ -40,7 +43,9 @@ returns-in_err-text-clause-no_memory g c =
     let laws : AreLegal = record { legal = law.legal; made = law.made; failed = law.failed } in
     let lines = map entry_of c.args.lines.now in
     let told = map told_line c.in_ok-answered.answered.items in
-    on_err c.from_residual-in_err-text.result _ (λ P G accepts front.
-    let steps = c.in_ok-answered.ensures.steps P G accepts front in
-    untold in_text_order P (whole G c.args.store.now) (whole G c.answer_lines.new.store) lines told steps.lines_are
-    (run_of_steps laws P (whole G c.args.store.now) (whole G c.answer_lines.new.store) lines told steps))
+    let old = c.args.store.now in
+    let new = c.answer_lines.new.store in
+    on_err c.from_residual-in_err-text.result _ (λ P accepts.
+    untold in_text_order false P old new lines told c.in_ok-answered.ensures.lines
+    (λ T starts. (c.in_ok-answered.ensures.serial P T accepts starts).answers)
+    (λ G front. run_of_steps laws P (whole G old) (whole G new) lines told (c.in_ok-answered.ensures.steps P G accepts front)))

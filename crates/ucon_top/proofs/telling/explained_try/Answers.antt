@@ -8,8 +8,7 @@ use Rattle.ucon_explain.specs.Text.{try_spelling}
 use Rattle.ucon_store.specs.Starts.{IsStart}
 use Rattle.ucon_syntax.specs.Policies.{accepted}
 use Rattle.ucon_top.specs.OwnReading.{IsOpenedState}
-use Rattle.ucon_top.proofs.Playing.{IsOpened, opened_so}
-use Rattle.ucon_top.proofs.Pointing.{HasMoments}
+use Rattle.ucon_top.proofs.Playing.{HasMoments, IsOpened, opened_so}
 use Rattle.ucon_top.proofs.Told.{if_ok, on_err, opened_state}
 use Rattle.ucon_top.proofs.telling.explained_try.Given.{Over}
 use Rattle.ucon_top.proofs.telling.explained_try.Goals as goal
@@ -38,11 +37,11 @@ over g c so each =
     ap accepted is_text ∙ (c.accepted_texts_spell_typed_policies.ensures text P).1 (some.has_policy.spelled, some.has_policy.typed) in
     let opened : IsOpened seen P text c.args.disk store =
     subst (λ (t : Bytes). IsOpened seen P t c.args.disk store) is_text
-    (opened_so seen P c.policy_part.result.now c.args.disk store accepts told.store told.images told.unfailed told.tells told.leads told.seen told.founded) in
+    (opened_so seen P c.policy_part.result.now c.args.disk store accepts told.store told.since told.unfailed told.tells told.leads told.seen told.begins told.at_rest told.places told.records told.old told.founded) in
     let start = told.leads P accepts in
     let laws = g.met.D.Disk in
     let moments : HasMoments seen = record { counts_now = laws.counts_now; only_now = laws.only_now } in
-    opened_state seen moments bytes P some.has_policy c.args.disk store opened told.places told.old (told.seen P accepts) c.close.result c.close.ensures.disk so start.0 start.1 each
+    opened_state seen moments bytes P some.has_policy c.args.disk store opened (told.seen P accepts) c.close.result c.close.ensures.disk so start.0 start.1 each
 
 pub returns-clause-text : goal.returns-clause-text
 returns-clause-text g c =

@@ -54,3 +54,15 @@ returns-in-Ok-clause-complete g c =
     (played_complete c.args.form before after bytes c.opening_sees_one_thing.ensures.one outcome
     (c.accepted_documents_are_not_refused.ensures bytes outcome) c.serve.ensures.refused c.serve.ensures.of_document c.serve.ensures.sink c.serve.ensures.fault
     c.serve.ensures.played (λ u. u.journal))
+
+pub returns-in-Ok-clause-causes : goal.returns-in-Ok-clause-causes
+returns-in-Ok-clause-causes g c = record {
+  usage = search rules;
+  form = search rules;
+  source = search rules;
+  sink = search rules;
+  too_long = search rules;
+  refused = search rules;
+  accepted = search rules;
+  fault = search rules;
+}
