@@ -79,8 +79,8 @@ def hold_rising(answers: List[Answer]) -> None:
 
 
 def in_order(form: str, items: list) -> Iterator[list]:
-    """The lines, or answers, that stand in the order of the document: of `serve` those of each client, else all."""
-    for client in sorted({it.client for it in items}) if form == "serve" else [None]:
+    """The lines, or answers, that stand in the order of the document: of `serve` and `board` those of each client, else all."""
+    for client in sorted({it.client for it in items}) if form in ("serve", "board") else [None]:
         yield [it for it in items if client in (None, it.client)]
 
 

@@ -12,7 +12,7 @@ from launcher.program import Ended, Input, file_of, input_name
 
 SCRIPT, POLICY_ALONE = "--script", "--journal-policy"
 # The forms that take the one or the other. What holds a conversation reads the journal's policy itself.
-WITH_SCRIPT, WITHOUT_LINES = ("play", "serve"), ("point", "audit", "report", "explain")
+WITH_SCRIPT, WITHOUT_LINES = ("play", "serve", "board"), ("point", "audit", "report", "explain")
 DIVIDER = b"%%\n"
 # The document can't be brought.
 NOT_BROUGHT = 121

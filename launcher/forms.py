@@ -37,6 +37,11 @@ KNOWN = [
         "./ucon serve door.journal < door.ucon",
     ),
     Form(
+        "board JOURNAL [--script FILE]",
+        "does so too, and reads each look off a board, without waiting for a step",
+        "./ucon board door.journal < door.ucon",
+    ),
+    Form(
         "point JOURNAL [--journal-policy]",
         "adds a checkpoint to a journal, and runs no line of the script",
         "./ucon point door.journal < door.ucon",

@@ -21,7 +21,7 @@ from launcher.seal import EMPTY, Front
 from launcher.told import ARE, LOST, WERE, Told, meet, near, path_of, read_told, told_of
 
 # The forms that open the journal that is their second word, and write it.
-WRITES = ("play", "serve", "point", "converse", "explain")
+WRITES = ("play", "serve", "board", "point", "converse", "explain")
 # The one that makes no step.
 EXPLAINS = "explain"
 ACCEPT = "--accept-loss"

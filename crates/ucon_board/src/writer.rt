@@ -89,6 +89,13 @@ impl BoardWriter {
         })
     }
 
+    /// The board's place.
+    pub fn place(&self) -> u64
+        ensures { result ≡ place_of self.now.board }
+    {
+        self.place
+    }
+
     /// Publishes a reply that changes something, at once: its place is the one behind the board's. If there is no memory, nothing of it is ever
     /// published, and the writer is still from then on. Each later step is refused, and the board stays at its place. It may wait for a reader.
     pub fn step<R: Wait>(

@@ -15,6 +15,7 @@ use Rattle.ucon_base.proofs.rows.Rows.TheSendSync as rows
 use Rattle.ucon_base.proofs.value.Side.TheSendSync as side
 use Rattle.ucon_base.proofs.value.Value.TheSendSync as value
 use Rattle.ucon_base.specs.contracts.name.Name as Name
+use Rattle.ucon_board.proofs.writer.BoardWriter.TheSendSync as writer
 use Rattle.ucon_disk.specs.declared.disk.Disk as disk
 use Rattle.ucon_journal.proofs.journal.Journal.TheSendSync as journal
 use Rattle.ucon_model.proofs.command.Caller.TheSendSync as caller
@@ -45,7 +46,6 @@ use Rattle.ucon_engine.specs.declared.engine.Engine as engine
 use Rattle.ucon_store.proofs.beginning.Beginning.TheSendSync as beginning
 use Rattle.ucon_store.proofs.entries.Entries.TheSendSync as entries
 use Rattle.ucon_store.proofs.in_force.InForce.TheSendSync as in_force
-use Rattle.ucon_store.specs.contracts.event.Base as Base
 use Rattle.ucon_store.specs.contracts.event.Event as Event
 use Rattle.ucon_store.specs.contracts.store.Store as Store
 use Rattle.ucon_store.specs.contracts.store.Store.TheInside as store_inside
@@ -57,9 +57,11 @@ use Rattle.ucon_client.proofs.answer.Answer.TheSendSync as answer
 use Rattle.ucon_client.specs.contracts.answer.Answer as Answer
 use Rattle.ucon_client.specs.contracts.client.Client as Client
 use Rattle.ucon_client.specs.contracts.part.Part as Part
-use Rattle.ucon_client.specs.contracts.shared.Shared as Shared
-use Rattle.ucon_client.specs.contracts.shared.Shared.TheInside as shared_inside
-use Rattle.ucon_client.specs.contracts.shared.SharedTurned.TheImpl as turned
+use Rattle.ucon_client.proofs.looks.Looks.TheSendSync as looks
+use Rattle.ucon_client.specs.contracts.boarded.Boarded as Boarded
+use Rattle.ucon_client.specs.contracts.boarded.Boarded.TheInside as boarded_inside
+use Rattle.ucon_client.specs.contracts.boarded.BoardedTurned.TheImpl as turned
+use Rattle.ucon_client.specs.contracts.boarded.SharedBase as SharedBase
 
 expr_field_send : IsSend (Expr.the_field).row
 expr_field_send = search (expr.hole_send-Expr, value.the_field_send, ref.the_field_send, crosses, sendable) depth 30 fits 4000
@@ -170,22 +172,25 @@ module _ (E D : RattleType) (g : engine.Ghosts E.Denot) (d : disk.Ghosts D.Denot
   store_send : IsSend (Store.the_row E D g d)
   store_send = view_send (store_inside.the_row E D g d) _ _ _ _ store_inside_send
 
-  shared_inside_send : IsSend (shared_inside.the_row E D g d)
-  shared_inside_send =
-      recorded_send (shared_inside.the_field E D g d).row _ _ (shared_inside.the_type E D g d).to_one
-      (struct_send (structs.shape (shared_inside.the_type E D g d)) (store_send, tt))
+  boarded_inside_send : IsSend (boarded_inside.the_row E D g d)
+  boarded_inside_send =
+      recorded_send (boarded_inside.the_field E D g d).row _ _ (boarded_inside.the_type E D g d).to_one
+      (struct_send (structs.shape (boarded_inside.the_type E D g d)) (search (store_send, crosses, sendable) depth 20, (search (writer.the_send, crosses, sendable) depth 20, tt)))
 
-  shared_send : IsSend (Shared.the_row E D g d)
-  shared_send = view_send (shared_inside.the_row E D g d) _ _ _ _ shared_inside_send
+  boarded_send : IsSend (Boarded.the_row E D g d)
+  boarded_send = view_send (boarded_inside.the_row E D g d) _ _ _ _ boarded_inside_send
 
   pub client_send : IsSend (Client.the_row E D g d)
   client_send =
       recorded_send (Client.the_field E D g d).row _ _ (Client.the_type E D g d).to_one
-      (struct_send (structs.shape (Client.the_type E D g d)) (part_field_send, (seat.the_send (Shared.the_row E D g d) Event.the_row shared_send, tt)))
+      (struct_send (structs.shape (Client.the_type E D g d)) (
+        part_field_send,
+        (seat.the_send (Boarded.the_row E D g d) Event.the_row boarded_send, (search (looks.the_send, crosses, sendable) depth 20, tt)),
+      ))
 
-  abbrev turned_ghosts : Turned.Ghosts (Shared.the_row E D g d).Denot (Base.the_row).Denot (Event.the_row).Denot
+  abbrev turned_ghosts : Turned.Ghosts (Boarded.the_row E D g d).Denot (SharedBase.the_row).Denot (Event.the_row).Denot
   turned_ghosts = turned.ghosts E D g turned.no_dict d turned.no_dict turned.no_dict
 
   -- threads may share the turn, too
-  pub turn_sync : IsSync (Turn.the_row (Shared.the_row E D g d) Base.the_row Event.the_row turned_ghosts)
-  turn_sync = turn.the_sync (Shared.the_row E D g d) Base.the_row Event.the_row turned_ghosts shared_send
+  pub turn_sync : IsSync (Turn.the_row (Boarded.the_row E D g d) SharedBase.the_row Event.the_row turned_ghosts)
+  turn_sync = turn.the_sync (Boarded.the_row E D g d) SharedBase.the_row Event.the_row turned_ghosts boarded_send

@@ -13,7 +13,7 @@ use Rattle.ucon_store.specs.Kept.{Kept}
 use Rattle.ucon_store.specs.declared.event.Event.TheVariants.{Done}
 use Rattle.ucon_store.specs.Events.{events, events_behind, events_of, number_of}
 use Rattle.ucon_store.specs.Marks.{marked}
-use Rattle.ucon_client.specs.Shared.{IsMarkOf, IsOfSteps}
+use Rattle.ucon_client.specs.Boarded.{IsMarkOf, IsOfSteps}
 use Rattle.ucon_client.specs.Answers.{IsAnswered, IsPart, Keeps, answer_of, asked, entry_of, lines_in, number, told_in, told_of}
 use Rattle.ucon_client.specs.Clients.{AreRising, AreJoined, Served, answered, told_by, faulted}
 use Rattle.ucon_base.specs.Elements.{Each, each_append}

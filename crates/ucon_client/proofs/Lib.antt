@@ -13,3 +13,8 @@ pub mod Divided
 pub mod Crossing
 pub mod Moves
 pub mod Rounds
+pub mod Following
+pub mod Held
+pub mod Holding
+pub mod Turning
+pub mod Posting

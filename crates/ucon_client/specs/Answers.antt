@@ -1,5 +1,5 @@
 -- What a client's lines are answered.
-use Rattle.std.specs.Prelude.{◌≡◌, ℕ, ◌+◌, ◌<◌, ◌≤◌, List, [], ◌∷◌, ◌++◌, map, length, Some, Result, Ok, Err, slice_index_or}
+use Rattle.std.specs.Prelude.{◌≡◌, ℕ, ◌+◌, ◌<◌, ◌≤◌, List, [], ◌∷◌, ◌++◌, map, length, drop, Option, Some, None, IfSome, Result, Ok, Err, slice_index_or}
 use Rattle.ucon_base.specs.Elements.{Each}
 use Rattle.ucon_turn.specs.Lists.{Continues, ByOthers}
 use Rattle.ucon_turn.specs.Turns.{Opening, Knowledge, IsSeatOf}
@@ -20,11 +20,14 @@ use Rattle.ucon_store.specs.declared.event.Base.{Base}
 use Rattle.ucon_store.specs.declared.event.Event.{Event}
 use Rattle.ucon_store.specs.declared.event.Event.TheVariants.{Done}
 use Rattle.ucon_store.specs.Events.{number_of}
-use Rattle.ucon_store.specs.Kept.{Kept}
 use Rattle.ucon_store.specs.Points.{text_in_force}
 use Rattle.ucon_store.specs.Starts.{IsStart, text_at_start}
 use Rattle.ucon_store.specs.Whole.{IsFront}
+use Rattle.ucon_client.specs.declared.looks.Looks.{Looks}
+use Rattle.ucon_board.specs.Board.{Known}
+use Rattle.ucon_client.specs.Boarded.{Sharing}
 use Rattle.ucon_client.specs.Clients.{Steps, AreRight, answered, Served, told_by}
+use Rattle.ucon_client.specs.Looks.{HasReached, IsRead, Look, Rise, answered_look, last_place}
 
 -- what a line asks, and by whom
 abbrev pub entry_of : Line → Entry
@@ -47,6 +50,10 @@ answer_of answers.Stopped = stopped
 -- a client's lines with their answers
 abbrev pub told_of : Part → List Answered
 told_of p = answered (map entry_of p.lines.items) (map answer_of p.answers.items)
+
+-- the lines behind the answered ones, with these answers
+abbrev pub held_in : Part → List Answer → List Answered
+held_in p held = answered (map entry_of (drop (length p.answers.items) p.lines.items)) (map answer_of held)
 
 abbrev pub served_of : Part → Served
 served_of p = record { number = p.number; told = told_of p }
@@ -92,22 +99,61 @@ pub record IsLedTo (P : PlainPolicy) (base : Base) (G : History) : Type 0 where
 -- The seat is one of this turn and has the client's number plus 1. What the client was answered is right for the list that its seat has seen,
 -- behind the entries of the store that was handed in. That holds under the store's policy, with each history that leads to where the store begins
 -- before both.
-pub record Serves {D : Type 0} (turn : Opening (Kept D)) (p : Part) (seat : Knowledge (Kept D) Event) : Type 0 where
+pub record Serves {D : Type 0} (turn : Opening (Sharing D)) (p : Part) (seat : Knowledge (Sharing D) Event) : Type 0 where
   pub seated : IsSeatOf turn seat
   pub number : seat.number ≡ p.number + 1
   pub part : IsPart p
-  pub right : (P : PlainPolicy) (G : History) → accepted turn.opened.policy ≡ Some P → IsFront P turn.opened G
-      → AreRight P p.number (G ++ turn.opened.entries) (map Done G ++ seat.seen) (told_of p)
+  pub right : (P : PlainPolicy) (G : History) → accepted turn.opened.store.policy ≡ Some P → IsFront P turn.opened.store G
+      → AreRight P p.number (G ++ turn.opened.store.entries) (map Done G ++ seat.seen) (told_of p)
+
+-- The answers that are held are those of the lines directly behind the answered ones, which are looks. Each was read off what the reader's board
+-- goes on from, at a place that isn't below what the client was told or read before.
+pub record AreHeld (p : Part) (l : Looks) : Type 0 where
+  pub few : length p.answers.items + length l.held.items ≤ length p.lines.items
+  pub from : ℕ
+  pub reached : HasReached from (told_of p)
+  pub looks : List Look
+  pub are : held_in p l.held.items ≡ map answered_look looks
+  pub own : Each (λ x. x.caller.0 ≡ p.number) looks
+  pub read : Each (IsRead l.reader.board) looks
+  pub rise : Rise from looks
+  pub last : l.last ≡ last_place from looks
+
+-- a reader of a board that was opened behind the entries of this store
+abbrev pub IsReaderAt : {D : Type 0} → Sharing D → Known → Type 0
+IsReaderAt s r = IfSome s.board (λ k. r.which ≡ k.which) × (r.board.opened_at ≡ s.store.before + length s.store.entries)
+
+-- the board of this store, if there is one, was opened behind its entries
+abbrev pub AreReadersAt : {D : Type 0} → Sharing D → Type 0
+AreReadersAt s = IfSome s.board (λ k. k.board.opened_at ≡ s.store.before + length s.store.entries)
+
+-- The reader is of the turn's board. The looks that were read off it are held for this part.
+pub record HoldsLooks {D : Type 0} (turn : Opening (Sharing D)) (p : Part) (l : Looks) : Type 0 where
+  pub reader : IsReaderAt turn.opened l.reader
+  pub held : AreHeld p l
+
+-- so it serves, and if it has a reader, it holds looks so
+abbrev pub ServesWith : {D : Type 0} → Opening (Sharing D) → Part → Knowledge (Sharing D) Event → Option Looks → Type 0
+ServesWith turn p seat looks = Serves turn p seat × IfSome looks (HoldsLooks turn p)
+
+-- the answers that are held, if there is a reader
+abbrev pub held_by : Option Looks → List Answer
+held_by None = []
+held_by (Some l) = l.held.items
+
+-- how many lines are answered, with those whose answers are held
+abbrev pub taken : Part → Option Looks → ℕ
+taken p looks = length p.answers.items + length (held_by looks)
 
 -- One more line is answered, the next one. Its step found a list that begins with all that the seat had seen, with nothing of its own behind. The
 -- seat has then seen the list that the step left. With each history that leads to where the store begins before both, it is a step from the one to
 -- the other.
-pub record AnswersOne {D : Type 0} (turn : Opening (Kept D)) (was now : Part) (seat : Knowledge (Kept D) Event) (seen : List Event) : Type 0 where
+pub record AnswersOne {D : Type 0} (turn : Opening (Sharing D)) (was now : Part) (seat : Knowledge (Sharing D) Event) (seen : List Event) : Type 0 where
   pub line : Line
   pub answer : Answer
   pub before : List Event
   pub next : line ≡ slice_index_or was.lines.items (length was.answers.items) line
   pub answers : now.answers.items ≡ was.answers.items ++ answer ∷ []
   pub others : Continues (ByOthers number_of seat.number seat.taken) seat.seen before
-  pub step : (P : PlainPolicy) (G : History) → accepted turn.opened.policy ≡ Some P → IsFront P turn.opened G
+  pub step : (P : PlainPolicy) (G : History) → accepted turn.opened.store.policy ≡ Some P → IsFront P turn.opened.store G
       → Steps P (entry_of line) (map Done G ++ before) (map Done G ++ seen) (answer_of answer)

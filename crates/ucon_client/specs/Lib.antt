@@ -1,9 +1,12 @@
 pub mod Answers
+pub mod Boarded
 pub mod Clients
 pub mod Dividing
 pub mod Events
 pub mod Feeding
 pub mod Laws
-pub mod Shared
+pub mod Looks
+pub mod Reading
+pub mod Steps
 pub mod Inbox
 pub mod Rule

@@ -7,6 +7,10 @@ mod crashes;
 #[cfg(test)]
 mod engines;
 #[cfg(test)]
+mod looking;
+#[cfg(test)]
+mod moments;
+#[cfg(test)]
 mod runs;
 #[cfg(test)]
 mod serving;

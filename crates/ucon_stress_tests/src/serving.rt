@@ -1,39 +1,18 @@
 //! Clients that are served at once, each in a thread of its own.
 
 use crate::engines::printed_by;
+use crate::moments::Moment;
 use crate::runs::{End, over, place_before, played};
 use std::alloc::Global;
 use std::sync::Wait;
-use std::sync::atomic::{AtomicU64, Ordering};
 use std::test::Fail;
 use std::thread::Threads;
-use std::{str, thread};
+use std::str;
 use ucon_cascade::Monitor;
 use ucon_client::{Gate, OpenGate};
 use ucon_disk::MemDisk;
 use ucon_top::Outcome;
 use ucon_vectors::{CAPPED, Meeting, document, two_clients};
-
-/// The most turns that a gate waits.
-const TURNS: u32 = 10_000_000;
-
-/// Something that happens once, for which others can wait.
-#[derive(Drop)]
-struct Moment(AtomicU64);
-
-impl Moment {
-    fn new() -> Moment {
-        Moment(AtomicU64::new(0))
-    }
-
-    fn comes(&self) {
-        self.0.store(1, Ordering::SeqCst);
-    }
-
-    fn came(&self) -> bool {
-        self.0.load(Ordering::SeqCst) == 1
-    }
-}
 
 /// Client 1 has lines 11 and 12, and client 2 has 14 and 15. The first lines wait for one another, so one thread alone never gets past them;
 /// client 1's second waits until client 2's first is answered, and client 2's second until client 1's second is.
@@ -58,13 +37,9 @@ impl MeetingGate {
     }
 
     fn wait(&self, moment: &Moment) {
-        for _ in 0..TURNS {
-            if moment.came() {
-                return;
-            }
-            thread::yield_now();
+        if !moment.is_met() {
+            self.missed.comes();
         }
-        self.missed.comes();
     }
 }
 
@@ -98,6 +73,7 @@ impl Gate for MeetingGate {
 fn served_at<R: Threads + Wait + Sync>(
     rt: &R,
     alloc: Global,
+    form: &str,
     meeting: &Meeting,
     gate: &MeetingGate,
 ) -> Result<End, Fail> {
@@ -107,23 +83,25 @@ fn served_at<R: Threads + Wait + Sync>(
         return Err("client 0 is not served".into());
     }
     let served = document(alloc, meeting.policy, meeting.served)?;
-    over(rt, alloc, "serve", &served, first.disk, gate)
+    over(rt, alloc, form, &served, first.disk, gate)
 }
 
 /// One thread for all clients never gets past the first lines: the gate's turns run out.
 #[test]
 fn two_clients_meet(rt: HostRuntime) -> Result<(), Fail> {
     let meeting = two_clients();
-    let gate = MeetingGate::new();
-    let end = served_at(&rt, rt.alloc(), &meeting, &gate)?;
-    assert!(rt; matches!(end.outcome, Outcome::Done));
-    assert!(rt; !gate.missed.came());
-    assert!(rt;
-        meeting
-            .outputs
-            .iter()
-            .any(|text| *text == end.output.as_slice())
-    );
+    for form in ["serve", "board"].as_slice() {
+        let gate = MeetingGate::new();
+        let end = served_at(&rt, rt.alloc(), form, &meeting, &gate)?;
+        assert!(rt; matches!(end.outcome, Outcome::Done));
+        assert!(rt; !gate.missed.came());
+        assert!(rt;
+            meeting
+                .outputs
+                .iter()
+                .any(|text| *text == end.output.as_slice())
+        );
+    }
     Ok(())
 }
 
@@ -247,6 +225,7 @@ fn are_a_serial_run(
 fn eight_served<R: Threads + Wait + Sync>(
     rt: &R,
     alloc: Global,
+    form: &str,
     faults: &[u64],
 ) -> Result<End, Fail> {
     let played = document(alloc, CAPPED, entities(alloc)?.as_bytes())?;
@@ -258,7 +237,7 @@ fn eight_served<R: Threads + Wait + Sync>(
     );
     let first = over(rt, alloc, "play", &played, disk, &OpenGate)?;
     let served = document(alloc, CAPPED, eight_clients(alloc)?.as_bytes())?;
-    over(rt, alloc, "serve", &served, first.disk, &OpenGate)
+    over(rt, alloc, form, &served, first.disk, &OpenGate)
 }
 
 /// The place of one step more over a journal, which is one above the number of its entries.
@@ -286,10 +265,12 @@ fn serial_steps(alloc: Global, output: &[u8]) -> Result<u64, Fail> {
 
 #[test]
 fn eight_clients_have_one_history(rt: HostRuntime) -> Result<(), Fail> {
-    let end = eight_served(&rt, rt.alloc(), &[])?;
-    assert!(rt; matches!(end.outcome, Outcome::Done));
-    let steps = serial_steps(rt.alloc(), &end.output)?;
-    assert!(rt; next_place(&rt, rt.alloc(), end.disk)? == steps.saturating_add(17));
+    for form in ["serve", "board"].as_slice() {
+        let end = eight_served(&rt, rt.alloc(), form, &[])?;
+        assert!(rt; matches!(end.outcome, Outcome::Done));
+        let steps = serial_steps(rt.alloc(), &end.output)?;
+        assert!(rt; next_place(&rt, rt.alloc(), end.disk)? == steps.saturating_add(17));
+    }
     Ok(())
 }
 
@@ -328,11 +309,13 @@ fn steps_until_the_fault(output: &[u8]) -> Result<u64, Fail> {
 /// The disk fails in the midst of the lines. Whether the step that met it counts shows at the next opening.
 #[test]
 fn one_disk_fault_stops_everybody(rt: HostRuntime) -> Result<(), Fail> {
-    let end = eight_served(&rt, rt.alloc(), &[700])?;
-    assert!(rt; matches!(end.outcome, Outcome::DiskFault));
-    let placed = steps_until_the_fault(&end.output)?;
-    let next = next_place(&rt, rt.alloc(), end.disk)?;
-    assert!(rt; next == placed.saturating_add(17) || next == placed.saturating_add(18));
+    for form in ["serve", "board"].as_slice() {
+        let end = eight_served(&rt, rt.alloc(), form, &[700])?;
+        assert!(rt; matches!(end.outcome, Outcome::DiskFault));
+        let placed = steps_until_the_fault(&end.output)?;
+        let next = next_place(&rt, rt.alloc(), end.disk)?;
+        assert!(rt; next == placed.saturating_add(17) || next == placed.saturating_add(18));
+    }
     Ok(())
 }
 

@@ -1,16 +1,10 @@
--- The form that asks for threads, and words that are none.
-use Rattle.std.proofs.Common.{◌≡◌, ◌<◌, ◌≤◌, List, [], ◌∷◌, length, map, true, refl, arith}
-use Rattle.std.specs.Prelude.{Option, Some, None, String, string_bytes}
+-- Words that are no form.
+use Rattle.std.proofs.Common.{◌≡◌, ◌<◌, ◌≤◌, List, [], ◌∷◌, length, map, refl, arith}
+use Rattle.std.specs.Prelude.{None, String, string_bytes}
 use Rattle.ucon_model.specs.Plain.{Bytes}
-use Rattle.ucon_top.specs.declared.form.Form.{Form}
-use Rattle.ucon_top.specs.declared.form.Form.TheVariants.{Serve}
-use Rattle.ucon_top.specs.Form.{asks_for_threads, form_of}
+use Rattle.ucon_top.specs.Form.{form_of}
 
-pub threads_are_serve : (o : Option Form) → asks_for_threads o ≡ true → o ≡ Some Serve
-threads_are_serve (Some Serve) e = refl
-threads_are_serve form e = absurd (cc e)
-
--- ---- words of no form: none, or more than five
+-- none, or more than five
 
 module _ {A : Type 0} where
   abbrev bytes_of : List (String A) → List Bytes

@@ -38,4 +38,5 @@ telling forms.Check tells = absurd (let none : false ≡ true = tells in cc none
 telling (forms.Gen seed size) tells = absurd (let none : false ≡ true = tells in cc none)
 telling forms.Play tells = absurd (let none : false ≡ true = tells in cc none)
 telling forms.Serve tells = absurd (let none : false ≡ true = tells in cc none)
+telling forms.Board tells = absurd (let none : false ≡ true = tells in cc none)
 telling forms.Point tells = absurd (let none : false ≡ true = tells in cc none)

@@ -2,7 +2,7 @@
 use Rattle.std.specs.Prelude.{Bool}
 use Rattle.ucon_outcome.specs.Ending.{y, n}
 use Rattle.ucon_top.specs.declared.form.Form.{Form}
-use Rattle.ucon_top.specs.declared.form.Form.TheVariants.{Trial, Check, Gen, Play, Serve, Point, Audit, Report, Explain}
+use Rattle.ucon_top.specs.declared.form.Form.TheVariants.{Trial, Check, Gen, Play, Serve, Board, Point, Audit, Report, Explain}
 
 -- What is so of each run of a form.
 pub record Traits : Type 0 where
@@ -40,6 +40,8 @@ traits (Gen seed size) =
 traits Play =
     row y y y n n n n
 traits Serve =
+    row y y y n n n y
+traits Board =
     row y y y n n n y
 traits Point =
     row y y n y n n n

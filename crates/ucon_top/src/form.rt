@@ -1,6 +1,6 @@
 //! What the program's words ask for.
 
-ghost use Rattle.std.specs.Prelude.{◌≡◌, ◌≤◌, map, option_and_then, string_bytes, IfSome};
+ghost use Rattle.std.specs.Prelude.{◌≡◌, ◌≤◌, map, option_and_then, string_bytes, IfSome, Some};
 ghost use Rattle.ucon_model.specs.Document.{number_spelled};
 ghost use Rattle.ucon_top.specs.Form.{HasSize, asks_for_threads, audit_form, explain_form, form_of, gen_form, journal_form, seed_of, size_of, word_form};
 
@@ -25,6 +25,8 @@ pub enum Form {
     Play,
     /// `serve JOURNAL`: runs the document over a journal, each client in a thread of its own.
     Serve,
+    /// `board JOURNAL`: runs the document as `serve` does. A `look` is read off a board that shows the journal's sessions, and takes no turn.
+    Board,
     /// `point JOURNAL`: runs no line of the document, and writes a checkpoint of a journal's state.
     Point,
     /// `audit JOURNAL`, or `audit JOURNAL K HEX`: runs no line of the document, and tells of a journal that it checks from its first byte. It also
@@ -40,6 +42,15 @@ pub enum Form {
         right: Name,
         object: Name,
     },
+}
+
+impl Form {
+    /// Whether it runs each client in a thread of its own.
+    pub(crate) fn has_threads(self) -> bool
+        ensures { result ≡ asks_for_threads (Some self) }
+    {
+        matches!(self, Form::Serve | Form::Board)
+    }
 }
 
 /// The most lines of a generated document, behind its opening ones.
@@ -75,7 +86,10 @@ pub fn read_form(words: &[String]) -> Option<Form>
 pub fn asks_for_threads(words: &[String]) -> bool
     ensures { result ≡ asks_for_threads (form_of (map (λ w. string_bytes w) words.now)) }
 {
-    matches!(read_form(words), Some(Form::Serve))
+    match read_form(words) {
+        Some(form) => form.has_threads(),
+        None => false,
+    }
 }
 
 fn word_form(word: &[u8]) -> Option<Form>
@@ -114,6 +128,8 @@ fn journal_form(word: &[u8], path: &[u8]) -> Option<Form>
         Some(Form::Play)
     } else if word == b"serve".as_slice() {
         Some(Form::Serve)
+    } else if word == b"board".as_slice() {
+        Some(Form::Board)
     } else if word == b"point".as_slice() {
         Some(Form::Point)
     } else if word == b"audit".as_slice() {

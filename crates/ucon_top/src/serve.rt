@@ -1,6 +1,6 @@
 //! Serves a document over a journal: each client in a thread of its own.
 
-ghost use Rattle.std.specs.Prelude.{◌≡◌, ◌⊎◌, ◌<◌, ◌≤◌, true, length, map, Some, None};
+ghost use Rattle.std.specs.Prelude.{◌≡◌, ◌⊎◌, ◌<◌, ◌≤◌, length, map, Some, None, true, IfErr, IfOk};
 ghost use Rattle.ucon_base.specs.Elements.{Each};
 ghost use Rattle.ucon_disk.specs.Causes.{raised};
 ghost use Rattle.ucon_model.specs.History.{History};
@@ -10,9 +10,10 @@ ghost use Rattle.ucon_syntax.specs.Policies.{accepted};
 ghost use Rattle.ucon_store.specs.Kept.{Kept};
 ghost use Rattle.ucon_store.specs.Stays.{Stays};
 ghost use Rattle.ucon_store.specs.Whole.{IsFront, whole};
-ghost use Rattle.ucon_client.specs.Answers.{IsAnswered, told_in};
+ghost use Rattle.ucon_client.specs.Answers.{AreReadersAt, IsAnswered, told_in};
 ghost use Rattle.ucon_client.specs.Dividing.{by_client};
 ghost use Rattle.ucon_top.specs.Closing.{IsClosedRun, IsOfRun};
+ghost use Rattle.ucon_top.specs.Form.{asks_for_threads};
 ghost use Rattle.ucon_top.specs.Ending.{IsCounted, IsOfAccepted, IsOfDocument, IsUntouched, IsUnwritten, MayEnd, status_of};
 ghost use Rattle.ucon_trial.specs.OneAnswer.{entry_of};
 ghost use Rattle.ucon_top.specs.Stepping.{IsRunBetween};
@@ -25,7 +26,8 @@ use crate::play::write_output;
 use std::alloc::Global;
 use std::sync::Wait;
 use std::thread::Threads;
-use ucon_client::{Gate, Part, divide};
+use ucon_base::NoMemory;
+use ucon_client::{Boarded, Gate, Part, divide};
 use ucon_disk::Disk;
 use ucon_engine::Engine;
 use ucon_flow::Sink;
@@ -35,24 +37,27 @@ use ucon_script::{LineText, policy_part};
 use ucon_store::Store;
 use ucon_syntax::accepted_texts_spell_typed_policies;
 
-/// Runs the document that the bytes are over the journal on the disk, each client in a thread of its own. It writes the output, client by client,
+/// Runs the document that the bytes are over the journal on the disk, each client in a thread of its own. With `board` a look is read off a board
+/// that shows the journal's sessions, if there is memory for one. It writes the output, client by client,
 /// when all threads have returned. The gate is told of each line.
 pub fn serve<E: Engine + Send, K: Sink, D: Disk + Send, G: Gate + Sync, R: Threads + Wait + Sync>(
     rt: &R,
     alloc: Global,
+    form: Form,
     bytes: &[u8],
     out: &mut K,
     disk: D,
     gate: &G,
 ) -> Ended<D>
-    requires { length bytes.now ≤ 4194304 }
+    requires short { length bytes.now ≤ 4194304 }
+    requires threads { asks_for_threads (Some form) ≡ true }
     ensures status { result.status ≡ status_of result.outcome }
     ensures of_document { IsOfDocument result.outcome }
-    ensures form { MayEnd Form.Serve result.outcome }
+    ensures form { MayEnd form result.outcome }
     ensures refused { IsRefusedBy result.outcome bytes.now }
     ensures accepted { IsOfAccepted result.outcome → IsAccepted bytes.now }
     ensures sink { IsCounted result.outcome Outcome.SinkFault (K.seen out.old).faults (K.seen out.new).faults }
-    ensures played { HasPlayed Form.Serve result.outcome bytes.now (D.seen disk) (D.seen result.disk) (K.seen out.old) (K.seen out.new) }
+    ensures played { HasPlayed form result.outcome bytes.now (D.seen disk) (D.seen result.disk) (K.seen out.old) (K.seen out.new) }
     ensures fault { result.outcome ≡ Outcome.DiskFault → (D.seen result.disk).faults ≡ raised (D.seen disk).faults }
     ensures untouched { IsUntouched result.outcome → result.disk ≡ disk }
     ensures unaccepted { (result.disk ≡ disk) ⊎ IsAccepted bytes.now }
@@ -64,8 +69,27 @@ pub fn serve<E: Engine + Send, K: Sink, D: Disk + Send, G: Gate + Sync, R: Threa
         Err(refused) => return Ended::by(Outcome::from(refused), disk),
     };
     match Store::<E, D>::open(alloc, policy_part(bytes), disk) {
-        Ok(store) => serve_lines(rt, alloc, store, script.lines.slice(), out, gate),
+        Ok(store) => serve_lines(rt, alloc, form, store, script.lines.slice(), out, gate),
         Err((disk, fault)) => Ended::by(Outcome::from(fault), disk),
+    }
+}
+
+/// The store, with a board that shows it if the form asks for one.
+fn boarded_for<E: Engine, D: Disk, R: Wait>(
+    rt: &R,
+    alloc: Global,
+    form: Form,
+    store: Store<E, D>,
+) -> Result<Boarded<E, D>, (Store<E, D>, NoMemory)>
+    requires { store.mark ≡ None }
+    ensures store { IfOk result (λ b. b.store ≡ store) }
+    ensures opened_at { IfOk result AreReadersAt }
+    ensures err { IfErr result (λ e. e.0 ≡ store) }
+{
+    if matches!(form, Form::Board) {
+        Boarded::shown(rt, alloc, store)
+    } else {
+        Boarded::new(alloc, store)
     }
 }
 
@@ -73,6 +97,7 @@ pub fn serve<E: Engine + Send, K: Sink, D: Disk + Send, G: Gate + Sync, R: Threa
 fn serve_lines<E: Engine + Send, K: Sink, D: Disk + Send, G: Gate + Sync, R: Threads + Wait + Sync>(
     rt: &R,
     alloc: Global,
+    form: Form,
     store: Store<E, D>,
     lines: &[LineText<'_>],
     out: &mut K,
@@ -92,7 +117,11 @@ fn serve_lines<E: Engine + Send, K: Sink, D: Disk + Send, G: Gate + Sync, R: Thr
         Ok(parts) => parts,
         Err(refused) => return Ended::by(Outcome::NoMemory(refused), store.close()),
     };
-    match ucon_client::serve(rt, alloc, store, parts, gate) {
+    let boarded = match boarded_for(rt, alloc, form, store) {
+        Ok(boarded) => boarded,
+        Err((store, refused)) => return Ended::by(Outcome::NoMemory(refused), store.close()),
+    };
+    match ucon_client::serve(rt, alloc, boarded, parts, gate) {
         Ok((store, parts)) => end_served(alloc, store, &parts, out),
         Err((store, _, refused)) => Ended::by(Outcome::NoMemory(refused), store.close()),
     }

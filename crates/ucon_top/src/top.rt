@@ -36,7 +36,8 @@ const LIMIT: usize = 4_194_304;
 /// Does what the words say, from the bytes read to the bytes written.
 ///
 /// `serve` runs the document over the journal on the disk, each client in a thread of its own. It writes one answer a line, client by client by
-/// rising number, when all threads have returned; the gate is told of each line. `run_alone` does all other forms.
+/// rising number, when all threads have returned; the gate is told of each line. `board` does the same, and reads a `look` off a board without a
+/// turn. `run_alone` does all other forms.
 pub fn run<S: Source, K: Sink, D: Disk + Send, G: Gate + Sync, R: Threads + Wait + Sync>(
     rt: &R,
     alloc: Global,
@@ -57,10 +58,13 @@ pub fn run<S: Source, K: Sink, D: Disk + Send, G: Gate + Sync, R: Threads + Wait
         (all_seen (S.seen input.new) (K.seen out.new) (D.seen result.disk)) }
 {
     accepted_texts_spell_typed_policies();
-    match read_form(words) {
-        None => Ended::by(Outcome::Usage, disk),
-        Some(Form::Serve) => serve_input(rt, alloc, input, out, disk, gate),
-        Some(form) => run_alone(rt, alloc, form, input, out, disk),
+    let Some(form) = read_form(words) else {
+        return Ended::by(Outcome::Usage, disk);
+    };
+    if form.has_threads() {
+        serve_input(rt, alloc, form, input, out, disk, gate)
+    } else {
+        run_alone(rt, alloc, form, input, out, disk)
     }
 }
 
@@ -111,7 +115,7 @@ pub fn run_alone<S: Source, K: Sink, D: Disk, R: Threads + Sync>(
         Form::Trial | Form::Check | Form::Gen { seed: _, size: _ } => {
             Ended::by(print_output(alloc, form, &bytes, out), disk)
         }
-        Form::Serve => unreachable!(),
+        Form::Serve | Form::Board => unreachable!(),
     }
 }
 
@@ -137,30 +141,33 @@ fn print_output<K: Sink>(alloc: Global, form: Form, bytes: &[u8], out: &mut K) -
     }
 }
 
-/// Serves the document that the input is.
+/// Serves the document that the input is, as `serve` or `board` does.
 #[tactic(auto, using(crate::specs::Seen::same_disk))]
 fn serve_input<S: Source, K: Sink, D: Disk + Send, G: Gate + Sync, R: Threads + Wait + Sync>(
     rt: &R,
     alloc: Global,
+    form: Form,
     input: &mut S,
     out: &mut K,
     disk: D,
     gate: &G,
 ) -> Ended<D>
+    requires threads { asks_for_threads (Some form) ≡ true }
+    requires size { HasSize form }
     ensures status { result.status ≡ status_of result.outcome }
-    ensures causes { HasCauses accepted Form.Serve result.outcome (all_seen (S.seen input.old) (K.seen out.old) (D.seen disk))
+    ensures causes { HasCauses accepted form result.outcome (all_seen (S.seen input.old) (K.seen out.old) (D.seen disk))
         (all_seen (S.seen input.new) (K.seen out.new) (D.seen result.disk)) }
-    ensures made { HasMade accepted Form.Serve result.outcome (all_seen (S.seen input.old) (K.seen out.old) (D.seen disk))
+    ensures made { HasMade accepted form result.outcome (all_seen (S.seen input.old) (K.seen out.old) (D.seen disk))
         (all_seen (S.seen input.new) (K.seen out.new) (D.seen result.disk)) }
-    ensures left { HasLeft accepted Form.Serve result.outcome (all_seen (S.seen input.old) (K.seen out.old) (D.seen disk))
+    ensures left { HasLeft accepted form result.outcome (all_seen (S.seen input.old) (K.seen out.old) (D.seen disk))
         (all_seen (S.seen input.new) (K.seen out.new) (D.seen result.disk)) }
-    ensures complete { IsWhole accepted Form.Serve result.outcome (all_seen (S.seen input.old) (K.seen out.old) (D.seen disk))
+    ensures complete { IsWhole accepted form result.outcome (all_seen (S.seen input.old) (K.seen out.old) (D.seen disk))
         (all_seen (S.seen input.new) (K.seen out.new) (D.seen result.disk)) }
 {
     accepted_documents_are_not_refused();
     opening_sees_one_thing();
-    match document_bytes(alloc, Form::Serve, input) {
-        Ok(bytes) => serve::<Monitor, K, D, G, R>(rt, alloc, &bytes, out, disk, gate),
+    match document_bytes(alloc, form, input) {
+        Ok(bytes) => serve::<Monitor, K, D, G, R>(rt, alloc, form, &bytes, out, disk, gate),
         Err(outcome) => Ended::by(outcome, disk),
     }
 }

@@ -87,6 +87,7 @@ impl<E: Turned> Turn<E> {
     pub fn call<J: Job<E>, R: Wait>(&self, rt: &R, seat: &mut Seat<E>, job: &mut J) -> J::Answer
         requires turn { IsSeatOf self.now seat.old }
         requires number { J.by job.old ≡ seat.old.number }
+        requires asks { J.asks job.old (E.base self.now.opened) }
         ensures turn { IsSeatOf self.now seat.new }
         ensures kept { (seat.new.number ≡ seat.old.number) × (seat.new.given ≡ seat.old.given)
             × (seat.new.taken ≡ seat.old.taken) }

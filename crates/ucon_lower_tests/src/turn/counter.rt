@@ -77,6 +77,8 @@ impl Job<Counter> for Add {
 
     ghost by = { λ j. j.number };
 
+    ghost asks = { λ _ _. ⊤ };
+
     ghost did = { λ j _ before after said k. (k ≡ j) × Adds j.number j.amount before after said };
 
     fn number(&self) -> u32 {
@@ -98,6 +100,8 @@ impl<'a, R: Clock> Job<Counter> for Hold<'a, R> {
     type Answer = Option<Told>;
 
     ghost by = { λ j. j.number };
+
+    ghost asks = { λ _ _. ⊤ };
 
     ghost did = { λ j _ before after said _. Adds j.number 0 before after said };
 

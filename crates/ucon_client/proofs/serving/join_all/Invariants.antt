@@ -1,4 +1,4 @@
-use Rattle.std.proofs.Common.{◌≡◌, ◌+◌, ◌≤◌, ◌++◌, Some, map, length, vec_len}
+use Rattle.std.proofs.Common.{◌≡◌, ◌+◌, ◌≤◌, ◌++◌, Some, map, length, take, drop, vec_len}
 use Rattle.std.specs.Prelude.{vec_capacity}
 use Rattle.ucon_base.specs.Elements.{Each}
 use Rattle.ucon_turn.specs.Lists.{Has}
@@ -12,13 +12,13 @@ use Rattle.ucon_client.specs.Answers.{served_of}
 use Rattle.ucon_client.specs.Clients.{AreJoined}
 use Rattle.ucon_client.proofs.serving.join_all.Given as goal
 
-abbrev pub invariant-loop-client : goal.invariant-loop-client
-invariant-loop-client g l = record {
+abbrev pub invariant-loop-place : goal.invariant-loop-place
+invariant-loop-place g l = record {
   turn : IsSeatOf l.fn.turn l.seat × (l.seat.number ≡ 0) × (l.seat.given ≡ l.fn.seat.given);
-  joined : (P : PlainPolicy) (H : History) → accepted l.fn.turn.opened.policy ≡ Some P → IsFront P l.fn.turn.opened H
-      → AreJoined P (H ++ l.fn.turn.opened.entries) (map Done H ++ l.seat.seen) l.seat.taken (map served_of l.parts.items);
+  joined : (P : PlainPolicy) (H : History) → accepted l.fn.turn.opened.store.policy ≡ Some P → IsFront P l.fn.turn.opened.store H
+      → AreJoined P (H ++ l.fn.turn.opened.store.entries) (map Done H ++ l.seat.seen) l.seat.taken (map served_of l.parts.items);
   back : Each (λ p. Has l.seat.taken (p.number + 1)) l.parts.items;
-  answered : l.parts.items ≡ map (λ c. c.part) l.yielded;
-  clients : l.fn.clients.items ≡ l.yielded ++ l.client-iterator.rest.items;
-  room : (vec_len l.parts ≡ length l.yielded) × (length l.fn.clients.items ≤ vec_capacity l.parts);
+  answered : l.parts.items ≡ map (λ c. c.part) (take l._place l.fn.clients.items);
+  rest : l.clients.items ≡ drop l._place l.fn.clients.items;
+  room : (vec_len l.parts ≡ l._place) × (length l.fn.clients.items ≤ vec_capacity l.parts);
 }

@@ -9,13 +9,13 @@ use Rattle.ucon_model.specs.LegalRun.{IsLegalRun, history_made, own_answers}
 use Rattle.ucon_model.specs.Plain.{PlainPolicy}
 use Rattle.ucon_client.specs.Answers.{IsAnswered, IsPart, asked, number, served_of, told_in}
 use Rattle.ucon_client.specs.Clients.{AreRising, faulted}
-use Rattle.ucon_client.specs.Shared.{IsMarkOf, IsOfSteps}
+use Rattle.ucon_client.specs.Boarded.{IsMarkOf, IsOfSteps, Sharing}
 use Rattle.ucon_syntax.specs.Policies.{accepted}
 use Rattle.ucon_store.specs.Kept.{Kept}
 use Rattle.ucon_store.specs.Whole.{IsFront}
 use Rattle.ucon_client.proofs.Ending.{asked_still, rising_still, back_still, each_part, closed_legal, lines_still, clients_told}
 use Rattle.ucon_client.proofs.serving.serve.Given.{Over}
-use Rattle.ucon_client.proofs.serving.serve.Goals.{After-close-shared}
+use Rattle.ucon_client.proofs.serving.serve.Goals.{After-close-boarded}
 use Rattle.ucon_client.proofs.serving.serve.Goals as goal
 
 pub join_all-requires-clause-rising : goal.join_all-requires-clause-rising
@@ -54,8 +54,8 @@ returns-clause-all g c =
     take_at now (drop (length now) old) c.seat_all.new.clients.len (long ∙ sym c.seat_all.new.clients.ok.0) in
     subst (Each IsAnswered) (sym (c.join_all.ensures.parts ∙ ap (map part_of) whole)) (each_part IsAnswered part_of now c.serve_all.ensures.all)
 
-pub close-shared-requires-clause-joined : goal.close-shared-requires-clause-joined
-close-shared-requires-clause-joined g c =
+pub close-boarded-requires-clause-joined : goal.close-boarded-requires-clause-joined
+close-boarded-requires-clause-joined g c =
     let C : Type 0 = Client g.row.E.Denot g.row.D.Denot in
     let part_of : C → Part = λ d. d.part in
     let old : List C = c.seat_all.new.clients.items in
@@ -69,34 +69,34 @@ close-shared-requires-clause-joined g c =
     subst (Each (Has taken)) (sym c.join_all.ensures.turn.2)
     (back_still c.join_all.new.parts.items c.args.parts.items c.seat_all.new.seat.given taken same c.seat_all.ensures.given c.join_all.ensures.back)
 
-module _ (g : Over) (c : After-close-shared g) (mark : IsOfSteps c.close-shared.result.mark) (P : PlainPolicy) (H : History)
-    (is : accepted c.args.store.policy ≡ Some P) (front : IsFront P c.args.store H) where
+module _ (g : Over) (c : After-close-boarded g) (mark : IsOfSteps c.close-boarded.result.store.mark) (P : PlainPolicy) (H : History)
+    (is : accepted c.args.boarded.store.policy ≡ Some P) (front : IsFront P c.args.boarded.store H) where
   abbrev Closed : Kept g.row.D.Denot
-  Closed = c.close-shared.result
+  Closed = c.close-boarded.result.store
 
-  legal : IsLegalRun P own_answers (H ++ c.args.store.entries) (told_in c.join_all.new.parts.items)
-      × (history_made (H ++ c.args.store.entries) (told_in c.join_all.new.parts.items) ≡ H ++ Closed.entries)
+  legal : IsLegalRun P own_answers (H ++ c.args.boarded.store.entries) (told_in c.join_all.new.parts.items)
+      × (history_made (H ++ c.args.boarded.store.entries) (told_in c.join_all.new.parts.items) ≡ H ++ Closed.entries)
       × IsMarkOf Closed.mark (faulted (told_in c.join_all.new.parts.items))
   legal =
-      let opened : Kept g.row.D.Denot = c.in-Ok-open.opened.0.opened in
-      let same : opened ≡ c.args.store = c.in-Ok-open.ensures.turn.0 ∙ c.new.ensures in
-      closed_legal P H opened c.args.store Closed c.join_all.new.seat.seen c.join_all.new.seat.taken (map served_of c.join_all.new.parts.items)
+      let opened : Kept g.row.D.Denot = c.in-Ok-open.opened.0.opened.store in
+      let same : opened ≡ c.args.boarded.store = ap (λ (s : Sharing g.row.D.Denot). s.store) (c.in-Ok-open.ensures.turn.0 ∙ c.readers-readers.ensures.same) in
+      closed_legal P H opened c.args.boarded.store Closed c.join_all.new.seat.seen c.join_all.new.seat.taken (map served_of c.join_all.new.parts.items)
       same c.requires.unmarked (c.join_all.ensures.joined P H (ap (λ (s : Kept g.row.D.Denot). accepted s.policy) same ∙ is)
-      (subst (λ (s : Kept g.row.D.Denot). IsFront P s H) (sym same) front)) c.close-shared.ensures.list c.close-shared.ensures.callers mark
+      (subst (λ (s : Kept g.row.D.Denot). IsFront P s H) (sym same) front)) c.close-boarded.ensures.list c.close-boarded.ensures.callers mark
 
 pub returns-clause-legal : goal.returns-clause-legal
 returns-clause-legal g c = λ P H is front.
-    (legal g (goal.at.returns-clause-legal g c).After-close-shared c.into_store-2.ensures.mark P H is front).0
+    (legal g (goal.at.returns-clause-legal g c).After-close-boarded c.into_store-2.ensures.mark P H is front).0
 
 pub returns-clause-made : goal.returns-clause-made
 returns-clause-made g c = λ P H is front.
-    (legal g (goal.at.returns-clause-made g c).After-close-shared c.into_store-2.ensures.mark P H is front).1
+    (legal g (goal.at.returns-clause-made g c).After-close-boarded c.into_store-2.ensures.mark P H is front).1
     ∙ ap (λ (s : Kept g.row.D.Denot). H ++ s.entries) (sym c.into_store-2.ensures.store)
 
 pub returns-clause-fault : goal.returns-clause-fault
 returns-clause-fault g c = λ P H is front.
     subst (λ (s : Kept g.row.D.Denot). IsMarkOf s.mark (faulted (told_in c.join_all.new.parts.items))) (sym c.into_store-2.ensures.store)
-    (legal g (goal.at.returns-clause-fault g c).After-close-shared c.into_store-2.ensures.mark P H is front).2
+    (legal g (goal.at.returns-clause-fault g c).After-close-boarded c.into_store-2.ensures.mark P H is front).2
 
 pub returns-clause-lines : goal.returns-clause-lines
 returns-clause-lines g c =
@@ -122,4 +122,4 @@ returns-clause-clients g c =
     let whole : take c.seat_all.new.clients.len (now ++ drop (length now) old) ≡ now =
     take_at now (drop (length now) old) c.seat_all.new.clients.len (long ∙ sym c.seat_all.new.clients.ok.0) in
     let is : c.join_all.new.parts.items ≡ map part_of now = c.join_all.ensures.parts ∙ ap (map part_of) whole in
-    clients_told c.join_all.new.parts.items (subst (Each IsPart) (sym is) (each_part IsPart part_of now (λ k d lt. (c.serve_all.ensures.serves k d lt).part)))
+    clients_told c.join_all.new.parts.items (subst (Each IsPart) (sym is) (each_part IsPart part_of now (λ k d lt. (c.serve_all.ensures.serves k d lt).0.part)))

@@ -1,15 +1,16 @@
-use Rattle.std.proofs.Common.{true, ◌≡◌, List, map, refl, sym, ap, subst, ◌∙◌}
-use Rattle.std.specs.Prelude.{Some}
+use Rattle.std.proofs.Common.{true, ◌≡◌, Bool, List, map, refl, sym, ap, subst, ◌∙◌}
+use Rattle.std.specs.Prelude.{Some, if◌then◌else◌}
 use Rattle.std.proofs.lemmas.Simd.{map-map}
 use Rattle.ucon_model.specs.declared.command.Entry.{Entry}
 use Rattle.ucon_model.specs.Document.{entries_of, entry_of as said_entry, policy_part}
-use Rattle.ucon_model.specs.LegalRun.{own_answers}
+use Rattle.ucon_model.specs.LegalRun.{in_text_order, own_answers}
 use Rattle.ucon_script.specs.Document.{lines_spelled, spelled_line}
 use Rattle.ucon_syntax.specs.Policies.{accepted}
 use Rattle.ucon_client.specs.Dividing.{by_client}
-use Rattle.ucon_top.specs.declared.form.Form.TheVariants.{Serve}
 use Rattle.ucon_outcome.specs.declared.outcome.Outcome.{Outcome}
 use Rattle.ucon_top.specs.Closing.{IsClosedRun}
+use Rattle.ucon_top.specs.Form.{output_order, sees_by}
+use Rattle.ucon_top.specs.Traits.{traits}
 use Rattle.ucon_trial.specs.OneAnswer.{entry_of}
 use Rattle.ucon_top.proofs.Playing.{HasMoments, IsOpened, ends_run, opened_so, run_raised}
 use Rattle.ucon_top.proofs.serve.serve.Goals as goal
@@ -35,14 +36,20 @@ returns-in-Ok-open-clause-played g c =
     let same : map entry_of c.slice.result.now ≡ entries_of said = ap (map entry_of) c.slice.ensures ∙ sym (map-map said_entry spelled_line lines) in
     let opened : IsOpened g.D.Disk.seen P text c.args.disk store =
     opened_so g.D.Disk.seen P text c.args.disk store accepts e.store e.since e.unfailed e.tells e.leads e.seen e.begins e.at_rest e.places e.records e.old e.founded in
-    let run : IsClosedRun g.D.Disk.seen own_answers true P store (by_client (entries_of said))
+    let form = c.args.form in
+    let by_threads : IsClosedRun g.D.Disk.seen own_answers true P store (by_client (entries_of said))
     c.serve_lines.result.outcome c.serve_lines.result.disk (g.K.Sink.seen c.args.out.now).contents (g.K.Sink.seen c.serve_lines.new.out).contents =
     subst (λ (es : List Entry). IsClosedRun g.D.Disk.seen own_answers true P store (by_client es)
     c.serve_lines.result.outcome c.serve_lines.result.disk (g.K.Sink.seen c.args.out.now).contents (g.K.Sink.seen c.serve_lines.new.out).contents) same
     (c.serve_lines.ensures.run P (ap accepted e.store.0 ∙ accepts)) in
+    let run : IsClosedRun g.D.Disk.seen (sees_by form) (traits form).threads P store (output_order form (entries_of said))
+    c.serve_lines.result.outcome c.serve_lines.result.disk (g.K.Sink.seen c.args.out.now).contents (g.K.Sink.seen c.serve_lines.new.out).contents =
+    subst (λ (b : Bool). IsClosedRun g.D.Disk.seen (if b then own_answers else in_text_order) b P store (if b then by_client (entries_of said) else entries_of said)
+    c.serve_lines.result.outcome c.serve_lines.result.disk (g.K.Sink.seen c.args.out.now).contents (g.K.Sink.seen c.serve_lines.new.out).contents)
+    (sym c.requires.threads) by_threads in
     let laws = g.met.D.Disk g.world.𝓛 g.world.𝓜 g.world.𝓡 ((λ s x. x), (λ x. x), (λ x. x), (λ x. x)) in
     let moments : HasMoments g.D.Disk.seen = record { counts_now = laws.counts_now; only_now = laws.only_now } in
-    ends_run g.D.Disk.seen moments P text c.args.disk store opened Serve c.args.bytes.now said
+    ends_run g.D.Disk.seen moments P text c.args.disk store opened form c.args.bytes.now said
     c.policy_part.ensures some.has_policy c.in-Ok.ensures.says c.serve_lines.result.disk (g.K.Sink.seen c.args.out.now) (g.K.Sink.seen c.serve_lines.new.out)
     c.serve_lines.result.outcome c.serve_lines.ensures.of_run run
 

@@ -3,7 +3,6 @@ use denote.Param.Send.{arg_send, param_send}
 use Rattle.std.proofs.Common.{rules, ◌≡◌, sym, subst}
 use Rattle.std.specs.Prelude.{IfSome}
 use Rattle.ucon_model.specs.Plain.{Bytes}
-use Rattle.ucon_top.specs.declared.form.Form.TheVariants.{Serve}
 use Rattle.ucon_top.specs.Seen.{Seen, all_seen}
 use Rattle.ucon_top.proofs.Completing.{over_document, played_complete}
 use Rattle.ucon_top.proofs.Crossing.{monitor_send}
@@ -20,7 +19,7 @@ returns-in-Err-clause-made g c =
       cut_short = search rules;
       unwritten = search rules;
       played = λ _. rw (c.by.ensures.outcome, c.by.ensures.disk) (
-          unread_played Serve c.in-Err.outcome source.left source.faults source'.faults (g.D.Disk.seen c.args.disk) (g.K.Sink.seen c.args.out.now)
+          unread_played c.args.form c.in-Err.outcome source.left source.faults source'.faults (g.D.Disk.seen c.args.disk) (g.K.Sink.seen c.args.out.now)
           c.in-Err.ensures.ends
           );
       pointed = search rules;
@@ -51,8 +50,8 @@ returns-in-Ok-clause-complete g c =
     let before : Seen = all_seen (g.S.Source.seen c.args.input.now) (g.K.Sink.seen c.args.out.now) (g.D.Disk.seen c.args.disk) in
     let after : Seen = all_seen (g.S.Source.seen c.document_bytes.new.input) (g.K.Sink.seen c.serve.new.out) (g.D.Disk.seen c.serve.result.disk) in
     let is = subst (λ (b : Bytes). IfSome before.source.left (λ d. d ≡ b)) (sym c.deref.ensures.value) c.in-Ok.ensures.bytes in
-    over_document before after Serve outcome before.source.left bytes is
-    (played_complete Serve before after bytes c.opening_sees_one_thing.ensures.one outcome
+    over_document before after c.args.form outcome before.source.left bytes is
+    (played_complete c.args.form before after bytes c.opening_sees_one_thing.ensures.one outcome
     (c.accepted_documents_are_not_refused.ensures bytes outcome) c.serve.ensures.refused c.serve.ensures.of_document c.serve.ensures.sink c.serve.ensures.fault
     c.serve.ensures.played (λ u. u.journal))
 
