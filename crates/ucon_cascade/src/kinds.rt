@@ -108,32 +108,60 @@ fn test_reads(side: Side, test: &Test) -> bool
     }
 }
 
-/// Whether a formula reads an attribute of a side's entity.
+/// Whether a formula reads an attribute of a side's entity. No recursion is entered for a comparison or a duration, as most are.
+#[inline(always)]
 #[tactic(auto, using(crate::proofs::Sides::any_of_both))]
 fn formula_reads(side: Side, f: &Formula) -> bool
     ensures { result ≡ list_any (is_of_side side) (formula_places (formula_of f.now)) }
 {
     match f {
-        Formula::And(f, g) => formula_reads(side, f) || formula_reads(side, g),
-        Formula::Or(f, g) => formula_reads(side, f) || formula_reads(side, g),
-        Formula::Not(f) => formula_reads(side, f),
+        Formula::Compare(_, a, b) => expr_reads(side, a) || expr_reads(side, b),
+        Formula::Lasts(_) => false,
+        _ => formula_parts_read(side, f),
+    }
+}
+
+/// The same, by whether its parts do.
+#[inline(never)]
+#[tactic(auto, using(crate::proofs::Sides::any_of_both))]
+fn formula_parts_read(side: Side, f: &Formula) -> bool
+    ensures { result ≡ list_any (is_of_side side) (formula_places (formula_of f.now)) }
+{
+    match f {
+        Formula::And(f, g) => formula_parts_read(side, f) || formula_parts_read(side, g),
+        Formula::Or(f, g) => formula_parts_read(side, f) || formula_parts_read(side, g),
+        Formula::Not(f) => formula_parts_read(side, f),
         Formula::Compare(_, a, b) => expr_reads(side, a) || expr_reads(side, b),
         Formula::Lasts(_) => false,
     }
 }
 
-/// Whether an expression reads an attribute of a side's entity.
-#[tactic(auto, using(crate::proofs::Sides::any_of_one, crate::proofs::Sides::any_of_both))]
+/// Whether an expression reads an attribute of a side's entity. No recursion is entered for a literal or a place, as most are.
+#[inline(always)]
+#[tactic(auto, using(crate::proofs::Sides::any_of_one))]
 fn expr_reads(side: Side, e: &Expr) -> bool
     ensures { result ≡ list_any (is_of_side side) (expr_places (expr_of e.now)) }
 {
     match e {
         Expr::Lit(_) => false,
         Expr::Read(place) => is_of(side, place),
-        Expr::Add(a, b) => expr_reads(side, a) || expr_reads(side, b),
-        Expr::Sub(a, b) => expr_reads(side, a) || expr_reads(side, b),
-        Expr::Mul(a, b) => expr_reads(side, a) || expr_reads(side, b),
-        Expr::Size(a) => expr_reads(side, a),
+        _ => expr_parts_read(side, e),
+    }
+}
+
+/// The same, by whether its parts do.
+#[inline(never)]
+#[tactic(auto, using(crate::proofs::Sides::any_of_one, crate::proofs::Sides::any_of_both))]
+fn expr_parts_read(side: Side, e: &Expr) -> bool
+    ensures { result ≡ list_any (is_of_side side) (expr_places (expr_of e.now)) }
+{
+    match e {
+        Expr::Lit(_) => false,
+        Expr::Read(place) => is_of(side, place),
+        Expr::Add(a, b) => expr_parts_read(side, a) || expr_parts_read(side, b),
+        Expr::Sub(a, b) => expr_parts_read(side, a) || expr_parts_read(side, b),
+        Expr::Mul(a, b) => expr_parts_read(side, a) || expr_parts_read(side, b),
+        Expr::Size(a) => expr_parts_read(side, a),
     }
 }
 

@@ -1,6 +1,6 @@
 //! Whom a command's own actions concern, read off the command and the head of its reply.
 
-ghost use Rattle.std.specs.Prelude.{◌≡◌, ◌<◌, ◌∷◌, ℕ, [], length, Some};
+ghost use Rattle.std.specs.Prelude.{◌≡◌, ◌<◌, ◌∷◌, ℕ, [], length, Some, IsTrue};
 ghost use Rattle.ucon_model.specs.declared.reply.Head.TheVariants as heads;
 ghost use Rattle.ucon_model.specs.Reach.{attribute_of, targets, variable_of};
 ghost use Rattle.ucon_model.specs.Views.{update_of};
@@ -78,7 +78,33 @@ fn put_target(
 }
 
 /// Puts into the work who reads where the updates of a time of session n write.
+#[inline(always)]
 pub fn put_targets(state: &State, readers: &Readers, n: u32, when: When, work: &mut NumberSet)
+    requires { AllBelow (readers_at readers.now) work.old.limit }
+    ensures limit { work.new.limit ≡ work.old.limit }
+    ensures members { GainsFirsts (first_of readers.now) work.old.members work.new.members
+        (StandsAtOne (shown state.now) (readers_at readers.now) (targets_in (shown state.now) n when)) }
+{
+    if has_no_update(state, n) {
+        return;
+    }
+    put_each_target(state, readers, n, when, work);
+}
+
+/// Whether session n's right is in the policy in force and has no update.
+#[inline(always)]
+fn has_no_update(state: &State, n: u32) -> bool
+    ensures { IsTrue result → (when : When) → targets_in (shown state.now) n when ≡ [] }
+{
+    match state.right(n) {
+        Some(right) => right.updates.slice().is_empty(),
+        None => false,
+    }
+}
+
+/// The same of all updates, one after the other.
+#[inline(never)]
+fn put_each_target(state: &State, readers: &Readers, n: u32, when: When, work: &mut NumberSet)
     requires { AllBelow (readers_at readers.now) work.old.limit }
     ensures limit { work.new.limit ≡ work.old.limit }
     ensures members { GainsFirsts (first_of readers.now) work.old.members work.new.members

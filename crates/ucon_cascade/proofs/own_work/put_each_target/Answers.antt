@@ -10,7 +10,7 @@ use Rattle.ucon_cascade.specs.Putting.{AllBelow, GainsFirsts, StandsAtOne}
 use Rattle.ucon_readers.specs.Readers.{first_of, readers_at}
 use Rattle.ucon_cascade.proofs.Putting.{gains_none}
 use Rattle.ucon_cascade.proofs.Targets.{gains_more, targets_more, targets_of_right, targets_without_right}
-use Rattle.ucon_cascade.proofs.own_work.put_targets.Goals as goal
+use Rattle.ucon_cascade.proofs.own_work.put_each_target.Goals as goal
 
 pub returns-in_default-clause-members : goal.returns-in_default-clause-members
 returns-in_default-clause-members c =

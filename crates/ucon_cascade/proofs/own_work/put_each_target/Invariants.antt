@@ -6,7 +6,7 @@ use Rattle.ucon_state.specs.Shown.{shown}
 use Rattle.ucon_state.specs.Tables.{session_in}
 use Rattle.ucon_cascade.specs.Putting.{GainsFirsts, StandsAtOne}
 use Rattle.ucon_readers.specs.Readers.{first_of, readers_at}
-use Rattle.ucon_cascade.proofs.own_work.put_targets.Given as goal
+use Rattle.ucon_cascade.proofs.own_work.put_each_target.Given as goal
 
 -- who reads where the updates so far write is in the work
 abbrev pub invariant-loop-u : goal.invariant-loop-u
