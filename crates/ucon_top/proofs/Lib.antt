@@ -3,6 +3,7 @@ pub mod Answering
 pub mod Behind
 pub mod Checked
 pub mod Forms
+pub mod Threads
 pub mod Closing
 pub mod Completing
 pub mod Crossing

@@ -43,21 +43,21 @@ use ucon_syntax::accepted_texts_spell_typed_policies;
 pub fn serve<E: Engine + Send, K: Sink, D: Disk + Send, G: Gate + Sync, R: Threads + Wait + Sync>(
     rt: &R,
     alloc: Global,
-    form: Form,
+    form: &Form,
     bytes: &[u8],
     out: &mut K,
     disk: D,
     gate: &G,
 ) -> Ended<D>
     requires short { length bytes.now ≤ 4194304 }
-    requires threads { asks_for_threads (Some form) ≡ true }
+    requires threads { asks_for_threads (Some form.now) ≡ true }
     ensures status { result.status ≡ status_of result.outcome }
     ensures of_document { IsOfDocument result.outcome }
-    ensures form { MayEnd form result.outcome }
+    ensures form { MayEnd form.now result.outcome }
     ensures refused { IsRefusedBy result.outcome bytes.now }
     ensures accepted { IsOfAccepted result.outcome → IsAccepted bytes.now }
     ensures sink { IsCounted result.outcome Outcome.SinkFault (K.seen out.old).faults (K.seen out.new).faults }
-    ensures played { HasPlayed form result.outcome bytes.now (D.seen disk) (D.seen result.disk) (K.seen out.old) (K.seen out.new) }
+    ensures played { HasPlayed form.now result.outcome bytes.now (D.seen disk) (D.seen result.disk) (K.seen out.old) (K.seen out.new) }
     ensures fault { result.outcome ≡ Outcome.DiskFault → (D.seen result.disk).faults ≡ raised (D.seen disk).faults }
     ensures untouched { IsUntouched result.outcome → result.disk ≡ disk }
     ensures unaccepted { (result.disk ≡ disk) ⊎ IsAccepted bytes.now }
@@ -78,7 +78,7 @@ pub fn serve<E: Engine + Send, K: Sink, D: Disk + Send, G: Gate + Sync, R: Threa
 fn boarded_for<E: Engine, D: Disk, R: Wait>(
     rt: &R,
     alloc: Global,
-    form: Form,
+    form: &Form,
     store: Store<E, D>,
 ) -> Result<Boarded<E, D>, (Store<E, D>, NoMemory)>
     requires { store.mark ≡ None }
@@ -97,7 +97,7 @@ fn boarded_for<E: Engine, D: Disk, R: Wait>(
 fn serve_lines<E: Engine + Send, K: Sink, D: Disk + Send, G: Gate + Sync, R: Threads + Wait + Sync>(
     rt: &R,
     alloc: Global,
-    form: Form,
+    form: &Form,
     store: Store<E, D>,
     lines: &[LineText<'_>],
     out: &mut K,

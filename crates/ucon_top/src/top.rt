@@ -1,6 +1,6 @@
 //! The top call.
 
-ghost use Rattle.std.specs.Prelude.{◌≡◌, ◌≤◌, ◌+◌, false, Some, length, IfOk, IfErr, IfSome, OnOk};
+ghost use Rattle.std.specs.Prelude.{◌≡◌, ◌≤◌, ◌+◌, false, Some, length, IfOk, IfErr, IfSome, OnOk, true};
 ghost use Rattle.std.specs.Io.KnownBytes.{IsAtEnd};
 ghost use Rattle.ucon_syntax.specs.Policies.{accepted};
 ghost use Rattle.ucon_top.specs.Ending.{status_of, IsCounted, IsOfAccepted, IsOfPrinting, IsUnwritten, MayEnd};
@@ -58,13 +58,11 @@ pub fn run<S: Source, K: Sink, D: Disk + Send, G: Gate + Sync, R: Threads + Wait
         (all_seen (S.seen input.new) (K.seen out.new) (D.seen result.disk)) }
 {
     accepted_texts_spell_typed_policies();
-    let Some(form) = read_form(words) else {
-        return Ended::by(Outcome::Usage, disk);
-    };
-    if form.has_threads() {
-        serve_input(rt, alloc, form, input, out, disk, gate)
-    } else {
-        run_alone(rt, alloc, form, input, out, disk)
+    match read_form(words) {
+        None => Ended::by(Outcome::Usage, disk),
+        Some(Form::Serve) => serve_input(rt, alloc, Form::Serve, input, out, disk, gate),
+        Some(Form::Board) => serve_input(rt, alloc, Form::Board, input, out, disk, gate),
+        Some(form) => run_alone(rt, alloc, form, input, out, disk),
     }
 }
 
@@ -167,7 +165,7 @@ fn serve_input<S: Source, K: Sink, D: Disk + Send, G: Gate + Sync, R: Threads + 
     accepted_documents_are_not_refused();
     opening_sees_one_thing();
     match document_bytes(alloc, form, input) {
-        Ok(bytes) => serve::<Monitor, K, D, G, R>(rt, alloc, form, &bytes, out, disk, gate),
+        Ok(bytes) => serve::<Monitor, K, D, G, R>(rt, alloc, &form, &bytes, out, disk, gate),
         Err(outcome) => Ended::by(outcome, disk),
     }
 }

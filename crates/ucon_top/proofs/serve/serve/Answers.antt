@@ -36,7 +36,7 @@ returns-in-Ok-open-clause-played g c =
     let same : map entry_of c.slice.result.now ≡ entries_of said = ap (map entry_of) c.slice.ensures ∙ sym (map-map said_entry spelled_line lines) in
     let opened : IsOpened g.D.Disk.seen P text c.args.disk store =
     opened_so g.D.Disk.seen P text c.args.disk store accepts e.store e.since e.unfailed e.tells e.leads e.seen e.begins e.at_rest e.places e.records e.old e.founded in
-    let form = c.args.form in
+    let form = c.args.form.now in
     let by_threads : IsClosedRun g.D.Disk.seen own_answers true P store (by_client (entries_of said))
     c.serve_lines.result.outcome c.serve_lines.result.disk (g.K.Sink.seen c.args.out.now).contents (g.K.Sink.seen c.serve_lines.new.out).contents =
     subst (λ (es : List Entry). IsClosedRun g.D.Disk.seen own_answers true P store (by_client es)
