@@ -28,8 +28,10 @@ fn looks_follow_steps(rt: HostRuntime) -> Result<(), Fail> {
     for form in ["serve", "board"].as_slice() {
         let first = played(&rt, alloc, &made, b"", None)?;
         let end = over(&rt, alloc, form, &lines, first.disk, &OpenGate)?;
-        assert!(rt; end.output.as_slice()
-            == b"1 3 permitted 1\n1 3 status 1 accessing\n1 4 ended 1\n1 4 status 1 ended\n1 4 no session\n".as_slice());
+        assert!(rt;
+            end.output.as_slice()
+                == b"1 3 permitted 1\n1 3 status 1 accessing\n1 4 ended 1\n1 4 status 1 ended\n1 4 no session\n".as_slice()
+        );
     }
     Ok(())
 }
@@ -41,7 +43,9 @@ fn sixty_four_clients_look(rt: HostRuntime) -> Result<(), Fail> {
     let (mut script, mut wanted) = (String::new(alloc), String::new(alloc));
     for client in 0..64u8 {
         script.push_str(&format!(in alloc; "client {client}\nlook 1\nlook 2\n")?)?;
-        wanted.push_str(&format!(in alloc; "{client} 3 status 1 accessing\n{client} 3 no session\n")?)?;
+        wanted.push_str(&format!(in alloc;
+            "{client} 3 status 1 accessing\n{client} 3 no session\n"
+        )?)?;
     }
     let first = played(&rt, alloc, &document(alloc, CAPPED, MADE)?, b"", None)?;
     let lines = document(alloc, CAPPED, script.as_bytes())?;

@@ -58,9 +58,9 @@ returns-in-Ok-clause-made g c =
       cut_short = λ _ alone. absurd (form.alone alone);
       unwritten = search rules;
       played = λ _. record {
-          bytes = bytes;
-          are = subst (λ (o : Option Bytes). IfSome o (λ d. d ≡ bytes)) (form.reads left) is;
-          played = c.serve.ensures.played;
+        bytes = bytes;
+        are = subst (λ (o : Option Bytes). IfSome o (λ d. d ≡ bytes)) (form.reads left) is;
+        played = c.serve.ensures.played;
       };
       pointed = λ is. absurd (form.points is);
       told = λ tells. absurd (form.tells tells);

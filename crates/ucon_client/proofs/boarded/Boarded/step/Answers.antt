@@ -33,11 +33,10 @@ invariant_of-self g c =
     let shown = subst (λ (k : Kept g.row.D.Denot). IsShownBy k c.self.inside.writer) (sym same) c.self.invariant.1 in
     let now = c.step-said.new.self in
     let s = c.step-said.ensures in
-    let line = entry_of c.args.line.now in
-    (
+    let line = entry_of c.args.line.now in (
       of_step was.mark now.mark line first s.mark,
       followed g.D.Disk.seen was now (s.stays.policy, s.stays.point, s.stays.before) line c.step-said.result c.self.inside.writer c.publish.new.writer
-      shown c.publish.ensures s.placed_behind s.no_memory s.still s.failed_behind,
+          shown c.publish.ensures s.placed_behind s.no_memory s.still s.failed_behind,
     )
 
 pub returns-clause-board : goal.returns-clause-board
