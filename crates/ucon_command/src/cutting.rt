@@ -59,9 +59,27 @@ pub fn command_into(
     Ok(())
 }
 
-/// Writes a command over another one. All forms do it here: wherever a command is dropped, the proof goes through each part of each form.
+/// Writes a command over another one. Most own no memory, and are written over without being let go.
 #[inline(always)]
 fn write_over(out: &mut Command, command: Command)
+    ensures { out.new ≡ command }
+{
+    match out {
+        Command::Tick(_)
+        | Command::Act { .. }
+        | Command::Try { .. }
+        | Command::Again(_)
+        | Command::Beat(_)
+        | Command::End(_)
+        | Command::Look(_)
+        | Command::Value { .. } => *out = command,
+        _ => write_over_owner(out, command),
+    }
+}
+
+/// Writes a command over one that may own memory. All forms do it here: wherever a command is dropped, the proof goes through each part of each form.
+#[inline(never)]
+fn write_over_owner(out: &mut Command, command: Command)
     ensures { out.new ≡ command }
 {
     *out = command;
