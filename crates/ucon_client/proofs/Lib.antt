@@ -13,3 +13,7 @@ pub mod Divided
 pub mod Crossing
 pub mod Moves
 pub mod Rounds
+pub mod LeftOut
+pub mod AllTold
+pub mod AllLive
+pub mod Taking

@@ -77,7 +77,7 @@ fn seat_all<E: Engine, D: Disk>(
 }
 
 /// Takes all seats back, by rising client number, and keeps the answered parts.
-fn join_all<E: Engine, D: Disk>(
+pub(crate) fn join_all<E: Engine, D: Disk>(
     turn: &Turn<Shared<E, D>>,
     seat: &mut Seat<Shared<E, D>>,
     clients: Vec<Client<E, D>>,
