@@ -30,6 +30,7 @@ use Rattle.ucon_top.specs.Accepted.{HasPolicy}
 use Rattle.ucon_top.specs.Closing.{Closes, EndsRun, IsClosedRun, IsMarkedBy, IsOfRun}
 use Rattle.ucon_top.specs.Form.{output_order, sees_by}
 use Rattle.ucon_trial.specs.Runs.{IsUnfaulted}
+use Rattle.ucon_top.specs.Played.{AreOf}
 use Rattle.ucon_top.specs.Seen.{as_it_was}
 use Rattle.ucon_top.specs.Stepping.{AreAnswered, HaveOutput, IsRunBetween}
 use Rattle.ucon_top.specs.Unread.{IsUnread}
@@ -38,6 +39,16 @@ use Rattle.ucon_top.proofs.Answering.{none_faulted}
 use Rattle.ucon_top.proofs.Behind.{begins_behind}
 use Rattle.ucon_disk.specs.Seen.{DiskSeen}
 use Rattle.ucon_flow.specs.Seen.{SinkSeen}
+
+-- how a run over a store ended: no line met a fault and the output is whole, a front of it went out, a line met a disk fault, or there was no memory
+abbrev pub RunEnds : Form → Bytes → (List ScriptLine → Type 0) → DiskSeen → DiskSeen → (was written : Option Bytes) → Outcome → Type 0
+RunEnds form bytes are old new was written outcomes.Done = IsRunOver form bytes are old new
+    (λ es told. (failed_line told ≡ None) × IsUnfaulted told × HaveOutput (Appends was written) es told) × (new.faults ≡ old.faults)
+RunEnds form bytes are old new was written outcomes.SinkFault = IsRunOver form bytes are old new (HaveOutput (AppendsPrefix was written))
+RunEnds form bytes are old new was written outcomes.DiskFault = IsRunOver form bytes are old new
+    (λ es told. IsSome (failed_line told) × HaveOutput (Appends was written) es told)
+RunEnds form bytes are old new was written (outcomes.NoMemory m) = IsRunOver form bytes are old new (λ es told. ⊤)
+RunEnds form bytes are old new was written outcome = ⊥
 
 module _ {D : Type 0} (seen : D → DiskSeen) where
   -- what the opening of a store under a policy told
@@ -127,8 +138,8 @@ module _ {D : Type 0} (seen : D → DiskSeen) where
         is_so = makes run.told run.run run.is_so;
       }
 
-    module _ (form : Form) (bytes : Bytes) (lines : List ScriptLine) (is_text : text ≡ policy_part bytes) (has_policy : HasPolicy bytes P)
-        (says : document_read accepted bytes ≡ Ok lines) (so : List Entry → List Answered → Type 0) (given : List Answered → Type 0) where
+    module _ (form : Form) (bytes : Bytes) (are : List ScriptLine → Type 0) (lines : List ScriptLine) (is_text : text ≡ policy_part bytes)
+        (has_policy : HasPolicy bytes P) (says : are lines) (so : List Entry → List Answered → Type 0) (given : List Answered → Type 0) where
       abbrev Lines : List Entry
       Lines = output_order form (entries_of lines)
 
@@ -145,7 +156,7 @@ module _ {D : Type 0} (seen : D → DiskSeen) where
 
       pub run_over : ((G : History) → IsFront P store G → AreAnswered (sees_by form) P (whole G store) (whole G closed) Lines given)
           → ((G : History) (told : List Answered) → IsRunBetween (sees_by form) P (whole G store) (whole G closed) told → given told → so Lines told)
-          → IsRunOver form bytes (seen disk) (seen now) so
+          → IsRunOver form bytes are (seen disk) (seen now) so
       run_over run makes = record {
         policy = P;
         lines = lines;
@@ -159,8 +170,9 @@ module _ {D : Type 0} (seen : D → DiskSeen) where
       }
 
   -- how playing ends, by how the run over the store does
-  module _ (P : PlainPolicy) (text : Bytes) (disk : D) (store : Kept D) (opened : IsOpened P text disk store) (form : Form) (bytes : Bytes) (lines : List ScriptLine)
-      (is_text : text ≡ policy_part bytes) (has_policy : HasPolicy bytes P) (says : document_read accepted bytes ≡ Ok lines) (now : D) (was written : SinkSeen) where
+  module _ (P : PlainPolicy) (text : Bytes) (disk : D) (store : Kept D) (opened : IsOpened P text disk store) (form : Form) (bytes : Bytes)
+      (are : List ScriptLine → Type 0) (lines : List ScriptLine) (is_text : text ≡ policy_part bytes) (has_policy : HasPolicy bytes P) (says : are lines)
+      (now : D) (was written : SinkSeen) where
     abbrev Entries : List Entry
     Entries = output_order form (entries_of lines)
 
@@ -171,34 +183,65 @@ module _ {D : Type 0} (seen : D → DiskSeen) where
       over : (so : List Entry → List Answered → Type 0) (given : List Answered → Type 0)
           → ((G : History) → IsFront P store G → AreAnswered (sees_by form) P (whole G store) (whole G closed) Entries given)
           → ((G : History) (told : List Answered) → IsRunBetween (sees_by form) P (whole G store) (whole G closed) told → given told → so Entries told)
-          → IsRunOver form bytes (seen disk) (seen now) so
-      over = run_over P text disk store closed now opened closes form bytes lines is_text has_policy says
+          → IsRunOver form bytes are (seen disk) (seen now) so
+      over = run_over P text disk store closed now opened closes form bytes are lines is_text has_policy says
 
       unfailed : closed.mark ≡ None → (seen now).faults ≡ (seen disk).faults
       unfailed none = ap (λ d. (seen d).faults) closes.disk_is ∙ closes.stays.unfailed (ap is_some (none ∙ sym opened.unmarked)) ∙ opened.unfailed
 
-      ends : (outcome : Outcome) → IsOfRun outcome → IsMarkedBy outcome closed.mark → EndsSo closed outcome
-          → HasPlayed form outcome bytes (seen disk) (seen now) was written
-      ends outcomes.Done of by e = (
-        over (λ (es : List Entry) (told : List Answered). (failed_line told ≡ None) × IsUnfaulted told × HaveOutput (Appends was.contents written.contents) es told)
-            (HaveOutput (Appends was.contents written.contents) Entries) e
-            (λ G told run output. let none = none_marked (failed_line told) (sym run.failed ∙ by) in (none, none_faulted P (sees_by form) (G ++ store.entries) told run.legal none, output)),
-        unfailed by,
-      )
-      ends outcomes.SinkFault of by e =
-          over (HaveOutput (AppendsPrefix was.contents written.contents)) (HaveOutput (AppendsPrefix was.contents written.contents) Entries) e (λ G told run output. output)
-      ends outcomes.DiskFault of by e = inl (
-          over (λ (es : List Entry) (told : List Answered). IsSome (failed_line told) × HaveOutput (Appends was.contents written.contents) es told)
-          (HaveOutput (Appends was.contents written.contents) Entries) e (λ G told run output. (sym (is_marked (failed_line told)) ∙ (ap is_some (sym run.failed) ∙ by), output))
-          )
-      ends (outcomes.NoMemory m) of by e =
-          inr (inr (over (λ (es : List Entry) (told : List Answered). ⊤) (λ (told : List Answered). ⊤) e (λ G told run nothing. tt)))
-      ends outcome of by e = absurd (cc (of.0, of.1))
+      -- no line met a fault, and the output is whole
+      abbrev IsWhole : List Entry → List Answered → Type 0
+      IsWhole es told = (failed_line told ≡ None) × IsUnfaulted told × HaveOutput (Appends was.contents written.contents) es told
+
+      -- a line met a disk fault, and the output is whole
+      abbrev IsFaulted : List Entry → List Answered → Type 0
+      IsFaulted es told = IsSome (failed_line told) × HaveOutput (Appends was.contents written.contents) es told
+
+      whole_run : closed.mark ≡ None → EndsSo closed outcomes.Done → IsRunOver form bytes are (seen disk) (seen now) IsWhole
+      whole_run by e = over IsWhole (HaveOutput (Appends was.contents written.contents) Entries) e
+          (λ G told run output. let none = none_marked (failed_line told) (sym run.failed ∙ by) in (none, none_faulted P (sees_by form) (G ++ store.entries) told run.legal none, output))
+
+      cut_run : EndsSo closed outcomes.SinkFault → IsRunOver form bytes are (seen disk) (seen now) (HaveOutput (AppendsPrefix was.contents written.contents))
+      cut_run e = over (HaveOutput (AppendsPrefix was.contents written.contents)) (HaveOutput (AppendsPrefix was.contents written.contents) Entries) e (λ G told run output. output)
+
+      faulted_run : IsSome closed.mark → EndsSo closed outcomes.DiskFault → IsRunOver form bytes are (seen disk) (seen now) IsFaulted
+      faulted_run by e = over IsFaulted (HaveOutput (Appends was.contents written.contents) Entries) e
+          (λ G told run output. (sym (is_marked (failed_line told)) ∙ (ap is_some (sym run.failed) ∙ by), output))
+
+      untold_run : ((G : History) → IsFront P store G → AreAnswered (sees_by form) P (whole G store) (whole G closed) Entries (λ told. ⊤))
+          → IsRunOver form bytes are (seen disk) (seen now) (λ es told. ⊤)
+      untold_run e = over (λ (es : List Entry) (told : List Answered). ⊤) (λ (told : List Answered). ⊤) e (λ G told run nothing. tt)
+
+    abbrev EndsAs : Outcome → Type 0
+    EndsAs = RunEnds form bytes are (seen disk) (seen now) was.contents written.contents
+
+    run_ends : (closed : Kept D) → Closes seen store closed now → (outcome : Outcome) → IsOfRun outcome → IsMarkedBy outcome closed.mark → EndsSo closed outcome → EndsAs outcome
+    run_ends closed closes outcomes.Done of by e = (whole_run closed closes by e, unfailed closed closes by)
+    run_ends closed closes outcomes.SinkFault of by e = cut_run closed closes e
+    run_ends closed closes outcomes.DiskFault of by e = faulted_run closed closes by e
+    run_ends closed closes (outcomes.NoMemory m) of by e = untold_run closed closes e
+    run_ends closed closes outcome of by e = absurd (cc (of.0, of.1))
+
+    pub over_store : (outcome : Outcome) → IsOfRun outcome
+        → IsClosedRun seen (sees_by form) P store Entries outcome now was.contents written.contents → EndsAs outcome
+    over_store outcome of run = run_ends run.closed run.closes outcome of run.marked run.ends
+
+  -- how playing a document ends
+  module _ (P : PlainPolicy) (text : Bytes) (disk : D) (store : Kept D) (opened : IsOpened P text disk store) (form : Form) (bytes : Bytes)
+      (lines : List ScriptLine) (is_text : text ≡ policy_part bytes) (has_policy : HasPolicy bytes P) (says : document_read accepted bytes ≡ Ok lines)
+      (now : D) (was written : SinkSeen) where
+    plays : (outcome : Outcome) → IsOfRun outcome → RunEnds form bytes (AreOf accepted bytes) (seen disk) (seen now) was.contents written.contents outcome → HasPlayed form outcome bytes (seen disk) (seen now) was written
+    plays outcomes.Done of e = e
+    plays outcomes.SinkFault of e = e
+    plays outcomes.DiskFault of e = inl e
+    plays (outcomes.NoMemory m) of e = inr (inr e)
+    plays outcome of e = absurd (cc (of.0, of.1))
 
     pub ends_run : (outcome : Outcome) → IsOfRun outcome
-        → IsClosedRun seen (sees_by form) P store Entries outcome now was.contents written.contents
+        → IsClosedRun seen (sees_by form) P store (output_order form (entries_of lines)) outcome now was.contents written.contents
         → HasPlayed form outcome bytes (seen disk) (seen now) was written
-    ends_run outcome of run = ends run.closed run.closes outcome of run.marked run.ends
+    ends_run outcome of run =
+        plays outcome of (over_store P text disk store opened form bytes (AreOf accepted bytes) lines is_text has_policy says now was written outcome of run)
 
   -- a run that met a disk fault raised the disk's count
   pub run_raised : (sees : Caller → Caller → Bool) (P : PlainPolicy) (disk : D) (store : Kept D) → store.mark ≡ None → (seen store.disk).faults ≡ (seen disk).faults → (lines : List Entry) (now : D) (was written : Option Bytes)

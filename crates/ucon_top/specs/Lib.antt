@@ -3,6 +3,8 @@ pub mod Closing
 pub mod Complete
 pub mod Ending
 pub mod Form
+pub mod Lived
+pub mod LiveEnding
 pub mod Own
 pub mod OwnReading
 pub mod Played

@@ -57,19 +57,22 @@ pub record HasRunBy (reads : PolicyReading) (sees : Caller → Caller → Bool) 
   pub played : IsPlayedBy reads sees text P file opening old new told
   pub is_so : so lines told
 
--- The bytes are an accepted document, and opening saw a fresh file, or a journal under the document's policy, if the disk told its file. If
--- the file is found as a history, the document's lines were played behind that. A file that opening alone accepts has none, and nothing is said
--- of the answers.
-pub record IsRunOverBy (reads : PolicyReading) (form : Form) (bytes : Bytes) (old new : DiskSeen)
+-- The bytes' policy part is accepted, and opening saw a fresh file, or a journal under that policy, if the disk told its file. If the file is found
+-- as a history, lines of which this is so were played behind that. A file that opening alone accepts has none, and nothing is said of the answers.
+pub record IsRunOverBy (reads : PolicyReading) (form : Form) (bytes : Bytes) (are : List ScriptLine → Type 0) (old new : DiskSeen)
     (so : List Entry → List Answered → Type 0) : Type 0 where
   pub policy : PlainPolicy
   pub lines : List ScriptLine
   pub has_policy : HasPolicy bytes policy
-  pub says : document_read reads bytes ≡ Ok lines
+  pub says : are lines
   pub entries : ℕ
   pub own : IfSome old.contents (IsOwnFileBy reads (policy_part bytes) entries)
   pub run : (file : Bytes) (opening : History) → old.contents ≡ Some file → IsFoundBy reads (policy_part bytes) file opening
       → HasRunBy reads (sees_by form) (policy_part bytes) policy (output_order form (entries_of lines)) file opening old new so
+
+-- the lines are those of the document
+abbrev pub AreOf : PolicyReading → Bytes → List ScriptLine → Type 0
+AreOf reads bytes lines = document_read reads bytes ≡ Ok lines
 
 -- the journal wasn't opened for this reason, and what was found in its file is still found there; a foreign file is as it was
 pub record IsUnopenedBy (reads : PolicyReading) (fault : StoreFault) (text : Bytes) (old new : DiskSeen) : Type 0 where
@@ -78,20 +81,20 @@ pub record IsUnopenedBy (reads : PolicyReading) (fault : StoreFault) (text : Byt
 
 -- What holds of the disk, and of the sink, by how playing ended. Otherwise than by the causes named here it made no call of the disk.
 abbrev pub HasPlayedBy : PolicyReading → Form → Outcome → Bytes → DiskSeen → DiskSeen → SinkSeen → SinkSeen → Type 0
-HasPlayedBy reads form Done bytes old new before now = IsRunOverBy reads form bytes old new
+HasPlayedBy reads form Done bytes old new before now = IsRunOverBy reads form bytes (AreOf reads bytes) old new
     (λ lines told. (failed_line told ≡ None) × IsUnfaulted told × HaveOutput (Appends before.contents now.contents) lines told)
     × (new.faults ≡ old.faults)
 HasPlayedBy reads form SinkFault bytes old new before now =
-    IsRunOverBy reads form bytes old new (HaveOutput (AppendsPrefix before.contents now.contents))
+    IsRunOverBy reads form bytes (AreOf reads bytes) old new (HaveOutput (AppendsPrefix before.contents now.contents))
 HasPlayedBy reads form DiskFault bytes old new before now =
-    IsRunOverBy reads form bytes old new (λ lines told. IsSome (failed_line told) × HaveOutput (Appends before.contents now.contents) lines told)
+    IsRunOverBy reads form bytes (AreOf reads bytes) old new (λ lines told. IsSome (failed_line told) × HaveOutput (Appends before.contents now.contents) lines told)
     ⊎ (IsUnopenedBy reads stores.DiskFault (policy_part bytes) old new × (now ≡ before))
 HasPlayedBy reads form NotJournal bytes old new before now = IsUnopenedBy reads stores.NotJournal (policy_part bytes) old new
 HasPlayedBy reads form (Damaged number place) bytes old new before now = IsUnopenedBy reads (stores.Damaged number place) (policy_part bytes) old new
 HasPlayedBy reads form (OtherPolicy place) bytes old new before now = IsUnopenedBy reads (stores.OtherPolicy place) (policy_part bytes) old new
 HasPlayedBy reads form (NoMemory e) bytes old new before now =
     IsAsBefore old new ⊎ IsUnopenedBy reads (stores.NoMemory e) (policy_part bytes) old new
-    ⊎ IsRunOverBy reads form bytes old new (λ lines told. ⊤)
+    ⊎ IsRunOverBy reads form bytes (AreOf reads bytes) old new (λ lines told. ⊤)
 HasPlayedBy reads form outcome bytes old new before now = IsAsBefore old new
 
 -- so it was played over some bytes, which are those of the input if the source tells them

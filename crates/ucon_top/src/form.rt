@@ -25,6 +25,8 @@ pub enum Form {
     Play,
     /// `serve JOURNAL`: runs the document over a journal, each client in a thread of its own.
     Serve,
+    /// `live JOURNAL`: runs the document over a journal while its script is still being written, each client in a thread of its own.
+    Live,
     /// `point JOURNAL`: runs no line of the document, and writes a checkpoint of a journal's state.
     Point,
     /// `audit JOURNAL`, or `audit JOURNAL K HEX`: runs no line of the document, and tells of a journal that it checks from its first byte. It also
@@ -75,7 +77,7 @@ pub fn read_form(words: &[String]) -> Option<Form>
 pub fn asks_for_threads(words: &[String]) -> bool
     ensures { result ≡ asks_for_threads (form_of (map (λ w. string_bytes w) words.now)) }
 {
-    matches!(read_form(words), Some(Form::Serve))
+    matches!(read_form(words), Some(Form::Serve | Form::Live))
 }
 
 fn word_form(word: &[u8]) -> Option<Form>
@@ -114,6 +116,8 @@ fn journal_form(word: &[u8], path: &[u8]) -> Option<Form>
         Some(Form::Play)
     } else if word == b"serve".as_slice() {
         Some(Form::Serve)
+    } else if word == b"live".as_slice() {
+        Some(Form::Live)
     } else if word == b"point".as_slice() {
         Some(Form::Point)
     } else if word == b"audit".as_slice() {
