@@ -8,12 +8,13 @@ use Rattle.ucon_store.specs.declared.fault.PointFault.{PointFault}
 use Rattle.ucon_store.specs.declared.fault.PointFault.TheVariants as faults
 use Rattle.ucon_store.specs.Points.{PolicyReading, SameKind}
 use Rattle.ucon_tell.specs.Seen.{VoiceSeen}
-use Rattle.ucon_tell.specs.Talk.{AnswersEach, Exchange}
+use Rattle.ucon_tell.specs.Told.{Told}
+use Rattle.ucon_converse.specs.Exchanges.{AnswersEach, Exchange}
 use Rattle.ucon_tell.specs.declared.talk_fault.TalkFault.{TalkFault}
 use Rattle.ucon_tell.specs.declared.talk_fault.TalkFault.TheVariants as talks
 use Rattle.ucon_converse.specs.Conversation.{EndsAtBy, HasConversedBy}
 use Rattle.ucon_converse.specs.Keeping.{IsDated}
-use Rattle.ucon_converse.specs.Replies.{GivesReplyBy, GoesOn, IsPointed, IsTooLong, Rests, Standing}
+use Rattle.ucon_converse.specs.Replies.{AreGivenBy, GivesReplyBy, GoesOn, IsPointed, IsTooLong, Rests, Standing}
 
 -- a journal that is an old one was one before
 pub dated_before : (o p : Option Bytes) → (IsSome o → IsSome p) → SameKind o p → IsDated p → IsDated o
@@ -55,6 +56,10 @@ module _ (reads : PolicyReading) (P : PlainPolicy) (text : Bytes) (A B : Type 0)
   answered_as before after line reply (inr (inr (inr (inr a)))) =
       inr (inr (inr (inr (record { asks = a.asks; said = a.said; pointed = pointed_as before after a.said a.pointed; reply_is = a.reply_is }))))
 
+  pub given_as : (before after : Standing) (told : List Told) → AreGivenBy reads P text A before after told → AreGivenBy reads P text B before after told
+  given_as before after [] is = is
+  given_as before after (t ∷ told) is = (is.0, answered_as before is.0 t.line t.reply is.1, given_as is.0 after told is.2)
+
   pub each_as : (limit : ℕ) (first last : Standing) (xs : List (Exchange Standing)) → AnswersEach limit (GivesReplyBy reads P text A) IsTooLong first xs last
       → AnswersEach limit (GivesReplyBy reads P text B) IsTooLong first xs last
   each_as limit first last [] run = run
@@ -73,8 +78,7 @@ module _ (reads : PolicyReading) (P : PlainPolicy) (text : Bytes) (A B : Type 0)
   ends_as (Err talks.SourceFault) reached last e = e
   ends_as (Err talks.SinkFault) reached last e = e
   ends_as (Err talks.TooLong) reached last e = e
-  ends_as (Err (talks.NoMemory m)) reached last (inl same) = inl same
-  ends_as (Err (talks.NoMemory m)) reached last (inr more) = inr (more.0, more.1, answered_as reached last more.0 more.1 more.2)
+  ends_as (Err (talks.NoMemory m)) reached last e = (e.0, given_as reached last e.0 e.1)
 
   -- a conversation over a journal that is an old one only if this is so, where what is premised of the disk is met
   pub conversed_as : (limit : ℕ) (result : Result (Unit {0}) TalkFault) (opening last : Standing) (before now : VoiceSeen) (disk : DiskSeen) (tells : Type 0) (hears : Bytes → Type 0)

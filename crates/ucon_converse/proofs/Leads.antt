@@ -13,7 +13,7 @@ use Rattle.ucon_store.specs.declared.fault.PointFault.{PointFault}
 use Rattle.ucon_store.specs.declared.fault.PointFault.TheVariants as faults
 use Rattle.ucon_store.specs.Marks.{marked}
 use Rattle.ucon_store.specs.Points.{PolicyReading}
-use Rattle.ucon_tell.specs.Talk.{AnswersEach, Exchange, IsAnswered}
+use Rattle.ucon_converse.specs.Exchanges.{AnswersEach, Exchange, IsAnswered}
 use Rattle.ucon_converse.specs.Due.{is_due_after}
 use Rattle.ucon_converse.specs.Replies.{AreAnswersBy, GivesReplyBy, GoesOn, IsAskedAndAnswered, IsPointed, IsTooLong, LeadsOn, Rests, Standing, pointed_at, stopped_at, tried_at}
 use Rattle.ucon_converse.specs.Requests.{IsNoRequestBy}

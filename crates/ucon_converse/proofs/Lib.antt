@@ -13,6 +13,7 @@ pub mod PolicyLines
 pub mod ReadingBack
 pub mod ReadingExamples
 pub mod Records
+pub mod Rounds
 pub mod Stepping
 pub mod Tellings
 pub mod Unasked

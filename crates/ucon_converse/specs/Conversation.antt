@@ -11,12 +11,12 @@ use Rattle.ucon_model.specs.StoredRun.{failed_line}
 use Rattle.ucon_store.specs.Marks.{marked}
 use Rattle.ucon_store.specs.Points.{PolicyReading}
 use Rattle.ucon_tell.specs.Seen.{VoiceSeen}
-use Rattle.ucon_tell.specs.Talk.{AnswersEach, Exchange, lines_in, replies_in}
-use Rattle.ucon_tell.specs.Told.{IsFrontOf}
+use Rattle.ucon_converse.specs.Exchanges.{AnswersEach, Exchange, lines_in, replies_in}
+use Rattle.ucon_tell.specs.Told.{IsFrontOf, Told}
 use Rattle.ucon_tell.specs.declared.talk_fault.TalkFault.{TalkFault}
 use Rattle.ucon_tell.specs.declared.talk_fault.TalkFault.TheVariants as faults
 use Rattle.ucon_converse.specs.Holding.{IsFoundPastBy}
-use Rattle.ucon_converse.specs.Replies.{AreAnswersBy, GivesReplyBy, IsTooLong, Standing, ready_line}
+use Rattle.ucon_converse.specs.Replies.{AreAnswersBy, AreGivenBy, GivesReplyBy, IsTooLong, Standing, ready_line}
 
 -- what a store stands for behind these exchanges
 abbrev pub behind : Standing → List (Exchange Standing) → Standing
@@ -31,18 +31,17 @@ goes_out (Err faults.SinkFault) before now ready replies = AppendsPrefix before 
 goes_out (Err faults.TooLong) before now ready replies = Appends before now (ready ++ replies)
 goes_out (Err (faults.NoMemory e)) before now ready replies = Appends before now (ready ++ replies) ⊎ ((now ≡ before) × (replies ≡ []))
 
--- The store stands for what the last reply led to. If there was no memory for a reply, one line more may have been answered, and not told.
+-- The store stands for what the last reply led to. If there was no memory for a reply, lines more may have been answered, and not told.
 abbrev pub EndsAtBy : PolicyReading → PlainPolicy → Bytes → Type 0 → Result (Unit {0}) TalkFault → Standing → Standing → Type 0
 EndsAtBy reads P text old (Ok done) reached last = reached ≡ last
 EndsAtBy reads P text old (Err faults.SourceFault) reached last = reached ≡ last
 EndsAtBy reads P text old (Err faults.SinkFault) reached last = reached ≡ last
 EndsAtBy reads P text old (Err faults.TooLong) reached last = reached ≡ last
-EndsAtBy reads P text old (Err (faults.NoMemory e)) reached last =
-    (reached ≡ last) ⊎ ((line reply : Bytes) × GivesReplyBy reads P text old reached last line reply)
+EndsAtBy reads P text old (Err (faults.NoMemory e)) reached last = (told : List Told) × AreGivenBy reads P text old reached last told
 
 -- These bytes were told by this moment: they are a front of what the sink held, the first line, and the replies up to one. From that moment on the
 -- file is found as a history that begins with all that was done when that one was answered, with the policy and all checkpoints that there were. That
--- holds now, and whenever a crash came in between.
+-- holds now, and whenever a crash came in between. Where lines were answered together it is the last of them.
 pub record IsToldOnceKeptBy (reads : PolicyReading) (text : Bytes) (disk : DiskSeen) (held : Bytes) (opening : Standing) (exchanges : List (Exchange Standing))
     (b : Bytes) (t : ℕ) : Type 0 where
   pub by_then : List (Exchange Standing)

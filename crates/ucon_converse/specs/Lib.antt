@@ -2,6 +2,8 @@ pub mod Answering
 pub mod Conversation
 pub mod Due
 pub mod Ended
+pub mod Exchanges
+pub mod Fronts
 pub mod Greeting
 pub mod Holding
 pub mod KeeperLaws

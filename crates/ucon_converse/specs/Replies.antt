@@ -15,9 +15,10 @@ use Rattle.ucon_store.specs.declared.fault.PointFault.{PointFault}
 use Rattle.ucon_store.specs.declared.fault.PointFault.TheVariants as faults
 use Rattle.ucon_store.specs.Marks.{marked}
 use Rattle.ucon_store.specs.Points.{PolicyReading, checkpoint}
-use Rattle.ucon_tell.specs.Talk.{Exchange}
+use Rattle.ucon_tell.specs.Told.{Told}
 use Rattle.ucon_converse.specs.declared.reading.Reading.{Reading}
 use Rattle.ucon_converse.specs.Due.{is_due_after}
+use Rattle.ucon_converse.specs.Exchanges.{Exchange}
 use Rattle.ucon_converse.specs.Readings.{IsNoReading, IsReadingOf, line_told, reading_line}
 use Rattle.ucon_converse.specs.Requests.{IsNoRequestBy, IsRequestBy, TellsWhyBy}
 
@@ -170,6 +171,12 @@ abbrev pub GivesReplyBy : PolicyReading → PlainPolicy → Bytes → Type 0 →
 GivesReplyBy reads P text old before after line reply =
     IsAskedAndAnswered reads P text old before after line reply ⊎ IsRefused reads before after line reply ⊎ IsUnjudged reads before after line reply
     ⊎ IsRead P text before after line reply ⊎ IsAskedForPoint P text old before after line reply
+
+-- these lines were given these replies, one after the other, which led from here to there
+abbrev pub AreGivenBy : PolicyReading → PlainPolicy → Bytes → Type 0 → Standing → Standing → List Told → Type 0
+AreGivenBy reads P text old before after [] = before ≡ after
+AreGivenBy reads P text old before after (t ∷ told) =
+    (between : Standing) × GivesReplyBy reads P text old before between t.line t.reply × AreGivenBy reads P text old between after told
 
 -- a line that is too long was given this reply
 abbrev pub IsTooLong : Standing → Bytes → Type 0

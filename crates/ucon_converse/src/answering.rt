@@ -17,10 +17,31 @@ use crate::requests::take_and_rest;
 use crate::telling::answer_unasked;
 use std::alloc::Global;
 use ucon_base::NoMemory;
-use ucon_command::{Request, RequestFault};
+use ucon_command::{Request, RequestFault, read_request};
 use ucon_disk::Disk;
 use ucon_engine::Engine;
 use ucon_store::Store;
+
+/// Answers a line.
+pub(crate) fn answer_line<E: Engine, D: Disk>(
+    alloc: Global,
+    store: &mut Store<E, D>,
+    points: &mut Points,
+    line: &[u8],
+    out: &mut Vec<u8>,
+) -> Result<(), NoMemory>
+    requires led { IsLed store.old }
+    ensures reply { OnOk result (IsReplied (GivesReply D.seen (answering store.old points.old) (answering store.new points.new) line.now)
+        out.old.items out.new.items) }
+    ensures failed { OnErr result ((answering store.new points.new ≡ answering store.old points.old)
+        ⊎ ((reply : List ℕ) × GivesReply D.seen (answering store.old points.old) (answering store.new points.new) line.now reply)) }
+    ensures keeps { Keeps D.seen (answering store.old points.old) (answering store.new points.new) }
+{
+    match read_request(alloc, line) {
+        Ok(request) => answer_request(alloc, store, points, line, &request, out),
+        Err(fault) => answer_other(alloc, store, points, line, fault, out),
+    }
+}
 
 /// Answers a line that is a request.
 pub(crate) fn answer_request<E: Engine, D: Disk>(

@@ -12,6 +12,7 @@
 #![tactic(auto)]
 
 mod answering;
+mod fronts;
 mod holding;
 mod keeper;
 mod laws;

@@ -95,7 +95,11 @@ fn hear<S: Source>(lines: &mut LineReader, input: &mut S) -> Result<Heard, TalkF
 {
     match lines.await_line(input) {
         Ok(true) => Ok(Heard::Lines),
-        Ok(false) => Ok(Heard::Over),
+        Ok(false) => {
+            let rest = lines.held().len();
+            lines.give_out(rest);
+            Ok(Heard::Over)
+        }
         Err(ReadFault::TooLong) => skip(lines, input),
         Err(fault) => Err(TalkFault::from(fault)),
     }
