@@ -140,6 +140,19 @@ def entries_in(policy: bytes, journal: Optional[bytes]) -> List[Answer]:
     return [entry_of(payload, place) for place, payload in enumerate(steps, 1)]
 
 
-def points_in(policy: bytes, journal: Optional[bytes]) -> List[bytes]:
+class Point(NamedTuple):
+    """A checkpoint, and how many steps stand before it."""
+
+    steps: int
+    payload: bytes
+
+
+def points_in(policy: bytes, journal: Optional[bytes]) -> List[Point]:
     """The checkpoints that are found in such a file."""
-    return [it for it in records_in(policy, journal) if it.startswith(POINT)]
+    found, steps = [], 0
+    for payload in records_in(policy, journal):
+        if payload.startswith(POINT):
+            found.append(Point(steps, payload))
+        else:
+            steps += 1
+    return found

@@ -21,12 +21,12 @@ use Rattle.ucon_syntax.specs.Policies.{accepted}
 use Rattle.ucon_tell.specs.Heard.{Hears}
 use Rattle.ucon_tell.specs.Seen.{VoiceSeen}
 use Rattle.ucon_tell.specs.Talk.{AreAnswered, AreRounds, HasTalked, IsRefused, IsToldOnceKept, Round, ends_by, told_in, writes_by}
-use Rattle.ucon_tell.specs.Told.{IsCut, IsFrontOf, Told, replies_of}
+use Rattle.ucon_tell.specs.Told.{AreAnsweredUntold, IsCut, IsFrontOf, Told, lines_of, replies_of}
 use Rattle.ucon_tell.specs.declared.talk_fault.TalkFault.{TalkFault}
 use Rattle.ucon_tell.specs.declared.talk_fault.TalkFault.TheVariants as faults
 use Rattle.ucon_turn.specs.Lists.{Begins}
 use Rattle.ucon_converse.specs.Answering.{Answering}
-use Rattle.ucon_converse.specs.Conversation.{EndsAtBy, HasConversedBy, IsRunOver, IsStoppedBy, IsToldOnceKeptBy, behind, goes_out}
+use Rattle.ucon_converse.specs.Conversation.{HasConversedBy, IsRunOver, IsStoppedBy, IsToldOnceKeptBy, behind, goes_out}
 use Rattle.ucon_converse.specs.Exchanges.{Exchange, IsAnswered, lines_in, replies_in}
 use Rattle.ucon_converse.specs.Greeting.{HasGreeted}
 use Rattle.ucon_converse.specs.Holding.{IsFoundPast, IsFoundedAt, standing}
@@ -228,20 +228,24 @@ module _ {D : Type 0} (seen : D → DiskSeen) (only : (d : D) (c : List ℕ) →
           failed = stopped_so reached l.run l.over l.failed (fault l.run reached.history l.failed l.leads) l.mark;
         }
 
-        ends_so : (r : Result (Unit {0}) TalkFault) (reached : Answering D) → accepted reached.store.policy ≡ Some P → IsFront P reached.store G
-            → (IsDated (seen reached.store.disk).contents → Old) → reached.store.policy ≡ first.store.policy → ends_by (GivesReplies seen) r reached last
-            → EndsAtBy accepted P first.store.policy Old r (standing G places reached) (standing G places last)
-        ends_so (Ok done) reached accepts' front' dated policy e = ap (standing G places) e
-        ends_so (Err faults.SourceFault) reached accepts' front' dated policy e = ap (standing G places) e
-        ends_so (Err faults.SinkFault) reached accepts' front' dated policy e = ap (standing G places) e
-        ends_so (Err faults.TooLong) reached accepts' front' dated policy e = ap (standing G places) e
-        ends_so (Err (faults.NoMemory m)) reached accepts' front' dated policy e = ⊎_elim
-            (λ (same : reached ≡ last). ([], ap (standing G places) same))
-            (λ (more : (told : List Told) × GivesReplies seen reached last told). (
-              more.0,
-              subst (λ (text : Bytes). AreGivenBy accepted P text Old (standing G places reached) (standing G places last) more.0) policy
-                  (said_one Old reached last more.0 dated accepts' front' more.1),
-            )) e
+        ends_so : (lines shown : Bytes) → shown ≡ lines → (r : Result (Unit {0}) TalkFault) (reached : Answering D) → accepted reached.store.policy ≡ Some P → IsFront P reached.store G
+            → (IsDated (seen reached.store.disk).contents → Old) → reached.store.policy ≡ first.store.policy
+            → ends_by 65546 (GivesReplies seen) (λ more. hears (lines ++ more)) r reached last
+            → ends_by 65546 (AreGivenBy accepted P first.store.policy Old) (λ more. hears (shown ++ more)) r (standing G places reached) (standing G places last)
+        ends_so lines shown is (Ok done) reached accepts' front' dated policy e = ap (standing G places) e
+        ends_so lines shown is (Err faults.SourceFault) reached accepts' front' dated policy e = ap (standing G places) e
+        ends_so lines shown is (Err faults.SinkFault) reached accepts' front' dated policy e = ap (standing G places) e
+        ends_so lines shown is (Err faults.TooLong) reached accepts' front' dated policy e = ap (standing G places) e
+        ends_so lines shown is (Err (faults.NoMemory m)) reached accepts' front' dated policy e = ⊎_elim
+            (λ (same : reached ≡ last). inl (ap (standing G places) same))
+            (λ (u : AreAnsweredUntold 65546 (GivesReplies seen) (λ more. hears (lines ++ more)) reached last). inr (record {
+              told = u.told;
+              each = u.each;
+              came = subst (λ (l : Bytes). hears (l ++ lines_of u.told)) (sym is) u.came;
+              answer =
+                  subst (λ (text : Bytes). AreGivenBy accepted P text Old (standing G places reached) (standing G places last) u.told) policy
+                  (said_one Old reached last u.told dated accepts' front' u.answer);
+            })) e
 
         pub conversed : (r : Result (Unit {0}) TalkFault) → HasGreeted (Ok tt) steps (moment_of (seen first.store.disk)) v0 v1
             → HasTalked (kept_seen seen) (Keeps seen) (GivesReplies seen) Refuses 65546 r first last v1 v2 hears → Conversed r
@@ -257,7 +261,7 @@ module _ {D : Type 0} (seen : D → DiskSeen) (only : (d : D) (c : List ℕ) →
               heard = subst hears (sym a.lines) h.heard;
               reached = standing G places h.reached;
               answered = a.answered;
-              ends = ends_so r h.reached (ap accepted s.policy ∙ accepts) (front_same P first.store h.reached.store G s.policy s.point s.before front)
+              ends = ends_so (lines_of (told_in h.rounds)) (lines_in a.exchanges) a.lines r h.reached (ap accepted s.policy ∙ accepts) (front_same P first.store h.reached.store G s.policy s.point s.before front)
                   (dated_before (seen first.store.disk).contents (seen h.reached.store.disk).contents s.tells along.kind) s.policy h.ends;
               output = subst (λ (l : Bytes). goes_out r v0.contents v2.contents ready l) (sym a.replies)
                   (went_out r v0.contents v1.contents v2.contents ready (replies_of (told_in h.rounds)) wrote h.output);
@@ -311,7 +315,7 @@ module _ {D : Type 0} (seen : D → DiskSeen) (only : (d : D) (c : List ℕ) →
           heard = none;
           reached = standing G places first;
           answered = refl;
-          ends = ([], ap (standing G places) (sym same));
+          ends = inl (ap (standing G places) (sym same));
           output = inr (greeted.0, refl);
           told = [];
           among = refl;

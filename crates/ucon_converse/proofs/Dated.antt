@@ -1,5 +1,5 @@
 -- Answers in an old journal.
-use Rattle.std.proofs.Common.{◌≡◌, inl, inr, true, false, ℕ, List, [], ◌∷◌, refl, sym, ◌∙◌}
+use Rattle.std.proofs.Common.{◌≡◌, inl, inr, true, false, ℕ, List, [], ◌∷◌, ◌++◌, refl, sym, ◌∙◌}
 use Rattle.std.specs.Prelude.{Option, Some, None, IsSome, Result, Ok, Err, ⊤}
 use Rattle.ucon_disk.specs.Seen.{DiskSeen}
 use Rattle.ucon_model.specs.LegalRun.{Answer, no_memory, disk_fault, stopped, placed}
@@ -8,11 +8,12 @@ use Rattle.ucon_store.specs.declared.fault.PointFault.{PointFault}
 use Rattle.ucon_store.specs.declared.fault.PointFault.TheVariants as faults
 use Rattle.ucon_store.specs.Points.{PolicyReading, SameKind}
 use Rattle.ucon_tell.specs.Seen.{VoiceSeen}
+use Rattle.ucon_tell.specs.Talk.{ends_by}
 use Rattle.ucon_tell.specs.Told.{Told}
-use Rattle.ucon_converse.specs.Exchanges.{AnswersEach, Exchange}
+use Rattle.ucon_converse.specs.Exchanges.{AnswersEach, Exchange, lines_in}
 use Rattle.ucon_tell.specs.declared.talk_fault.TalkFault.{TalkFault}
 use Rattle.ucon_tell.specs.declared.talk_fault.TalkFault.TheVariants as talks
-use Rattle.ucon_converse.specs.Conversation.{EndsAtBy, HasConversedBy}
+use Rattle.ucon_converse.specs.Conversation.{HasConversedBy}
 use Rattle.ucon_converse.specs.Keeping.{IsDated}
 use Rattle.ucon_converse.specs.Replies.{AreGivenBy, GivesReplyBy, GoesOn, IsPointed, IsTooLong, Rests, Standing}
 
@@ -73,12 +74,15 @@ module _ (reads : PolicyReading) (P : PlainPolicy) (text : Bytes) (A B : Type 0)
     each_as limit x.after last xs run.1,
   )
 
-  ends_as : (r : Result (Unit {0}) TalkFault) (reached last : Standing) → EndsAtBy reads P text A r reached last → EndsAtBy reads P text B r reached last
-  ends_as (Ok done) reached last e = e
-  ends_as (Err talks.SourceFault) reached last e = e
-  ends_as (Err talks.SinkFault) reached last e = e
-  ends_as (Err talks.TooLong) reached last e = e
-  ends_as (Err (talks.NoMemory m)) reached last e = (e.0, given_as reached last e.0 e.1)
+  ends_as : (limit : ℕ) (comes : Bytes → Type 0) (r : Result (Unit {0}) TalkFault) (reached last : Standing)
+      → ends_by limit (AreGivenBy reads P text A) comes r reached last → ends_by limit (AreGivenBy reads P text B) comes r reached last
+  ends_as limit comes (Ok done) reached last e = e
+  ends_as limit comes (Err talks.SourceFault) reached last e = e
+  ends_as limit comes (Err talks.SinkFault) reached last e = e
+  ends_as limit comes (Err talks.TooLong) reached last e = e
+  ends_as limit comes (Err (talks.NoMemory m)) reached last (inl same) = inl same
+  ends_as limit comes (Err (talks.NoMemory m)) reached last (inr u) =
+      inr (record { told = u.told; each = u.each; came = u.came; answer = given_as reached last u.told u.answer })
 
   -- a conversation over a journal that is an old one only if this is so, where what is premised of the disk is met
   pub conversed_as : (limit : ℕ) (result : Result (Unit {0}) TalkFault) (opening last : Standing) (before now : VoiceSeen) (disk : DiskSeen) (tells : Type 0) (hears : Bytes → Type 0)
@@ -89,7 +93,7 @@ module _ (reads : PolicyReading) (P : PlainPolicy) (text : Bytes) (A B : Type 0)
     heard = h.heard;
     reached = h.reached;
     answered = each_as limit opening h.reached h.exchanges h.answered;
-    ends = ends_as result h.reached last h.ends;
+    ends = ends_as limit (λ more. hears (lines_in h.exchanges ++ more)) result h.reached last h.ends;
     output = h.output;
     told = h.told;
     among = h.among;

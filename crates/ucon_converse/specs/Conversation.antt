@@ -12,7 +12,8 @@ use Rattle.ucon_store.specs.Marks.{marked}
 use Rattle.ucon_store.specs.Points.{PolicyReading}
 use Rattle.ucon_tell.specs.Seen.{VoiceSeen}
 use Rattle.ucon_converse.specs.Exchanges.{AnswersEach, Exchange, lines_in, replies_in}
-use Rattle.ucon_tell.specs.Told.{IsFrontOf, Told}
+use Rattle.ucon_tell.specs.Talk.{ends_by}
+use Rattle.ucon_tell.specs.Told.{IsFrontOf}
 use Rattle.ucon_tell.specs.declared.talk_fault.TalkFault.{TalkFault}
 use Rattle.ucon_tell.specs.declared.talk_fault.TalkFault.TheVariants as faults
 use Rattle.ucon_converse.specs.Holding.{IsFoundPastBy}
@@ -30,14 +31,6 @@ goes_out (Err faults.SourceFault) before now ready replies = Appends before now 
 goes_out (Err faults.SinkFault) before now ready replies = AppendsPrefix before now (ready ++ replies)
 goes_out (Err faults.TooLong) before now ready replies = Appends before now (ready ++ replies)
 goes_out (Err (faults.NoMemory e)) before now ready replies = Appends before now (ready ++ replies) ⊎ ((now ≡ before) × (replies ≡ []))
-
--- The store stands for what the last reply led to. If there was no memory for a reply, lines more may have been answered, and not told.
-abbrev pub EndsAtBy : PolicyReading → PlainPolicy → Bytes → Type 0 → Result (Unit {0}) TalkFault → Standing → Standing → Type 0
-EndsAtBy reads P text old (Ok done) reached last = reached ≡ last
-EndsAtBy reads P text old (Err faults.SourceFault) reached last = reached ≡ last
-EndsAtBy reads P text old (Err faults.SinkFault) reached last = reached ≡ last
-EndsAtBy reads P text old (Err faults.TooLong) reached last = reached ≡ last
-EndsAtBy reads P text old (Err (faults.NoMemory e)) reached last = (told : List Told) × AreGivenBy reads P text old reached last told
 
 -- These bytes were told by this moment: they are a front of what the sink held, the first line, and the replies up to one. From that moment on the
 -- file is found as a history that begins with all that was done when that one was answered, with the policy and all checkpoints that there were. That
@@ -67,14 +60,15 @@ pub record IsRunOver (P : PlainPolicy) (opening : History) (told : List Answered
 
 -- Lines, of which this is so, were answered one by one, each by one line, from an opening standing on. The answers to the requests among them are a legal
 -- run in text order behind the opening history, up to a checkpoint that met a disk fault, if one did. A reading takes no part in it, and is told of the
--- history at its place. And where the disk tells, whatever was told since was told once kept.
+-- history at its place. The store stands for what the last reply led to, but that lines that came next may have been answered, too, if there was no memory
+-- for their replies. And where the disk tells, whatever was told since was told once kept.
 pub record HasConversedBy (reads : PolicyReading) (P : PlainPolicy) (text : Bytes) (old : Type 0) (limit : ℕ) (result : Result (Unit {0}) TalkFault)
     (opening last : Standing) (before now : VoiceSeen) (disk : DiskSeen) (tells : Type 0) (hears : Bytes → Type 0) : Type 0 where
   pub exchanges : List (Exchange Standing)
   pub heard : hears (lines_in exchanges)
   pub reached : Standing
   pub answered : AnswersEach limit (GivesReplyBy reads P text old) IsTooLong opening exchanges reached
-  pub ends : EndsAtBy reads P text old result reached last
+  pub ends : ends_by limit (AreGivenBy reads P text old) (λ more. hears (lines_in exchanges ++ more)) result reached last
   pub output : goes_out result before.contents now.contents (ready_line (length opening.history)) (replies_in exchanges)
   -- the run
   pub told : List Answered

@@ -162,11 +162,11 @@ hears_endless n h0 h l0 l lines many p = record {
 }
 
 -- a fault of the source or of memory, passed on
-pub next_fault : (e : TalkFault) (limit : ℕ) (h h1 : List ℕ) (l l1 : Option (List ℕ)) → HearsNext (Err e) limit h h1 l l1 → Hears (Err e) h h1 l l1 [] × (Err e ≡ Err faults.SinkFault → ⊥)
-next_fault faults.SourceFault limit h h1 l l1 n = (n, λ bad. (cc))
+pub next_fault : (e : TalkFault) (limit : ℕ) (h h1 : List ℕ) (l l1 : Option (List ℕ)) → HearsNext (Err e) limit h h1 l l1 → Hears (Err e) h h1 l l1 [] × (e ≡ faults.SinkFault → ⊥)
+next_fault faults.SourceFault limit h h1 l l1 n = (n, λ bad. (cc bad))
 next_fault faults.SinkFault limit h h1 l l1 n = absurd n
-next_fault faults.TooLong limit h h1 l l1 n = (n, λ bad. (cc))
-next_fault (faults.NoMemory e) limit h h1 l l1 n = (n, λ bad. (cc))
+next_fault faults.TooLong limit h h1 l l1 n = (n, λ bad. (cc bad))
+next_fault (faults.NoMemory e) limit h h1 l l1 n = (n, λ bad. (cc bad))
 
 -- ---- one round
 
@@ -179,8 +179,7 @@ pub held_ended : (e : TalkFault) (limit : ℕ) (h m h1 : List ℕ) (l l1 : Optio
 held_ended faults.SourceFault limit h m h1 l l1 lines p q = absurd q
 held_ended faults.SinkFault limit h m h1 l l1 lines p q = record { read = p.read; consumed = p.consumed; rest = h1; all = sym p.all ∙ q; left_over = refl }
 held_ended faults.TooLong limit h m h1 l l1 lines p q = absurd q
-held_ended (faults.NoMemory e) limit h m h1 l l1 lines p q =
-    record { read = p.read; consumed = p.consumed; rest = m; all = sym p.all ∙ ap (λ (x : List ℕ). x ++ m) (sym q); left_over = tt }
+held_ended (faults.NoMemory e) limit h m h1 l l1 lines p q = record { read = p.read; consumed = p.consumed; rest = q.0; all = sym p.all ∙ q.1; left_over = tt }
 
 -- a line was skipped, and refused
 pub skip_taken : (limit : ℕ) (h h1 : List ℕ) (l l1 : Option (List ℕ)) (s : SkipsLine limit h h1 l l1) (lines : List ℕ) → adds_line (Ok tt) s.line lines → TakesLines 1 h h1 l l1 lines

@@ -1,5 +1,5 @@
 -- Conversations, one after the other.
-use Rattle.std.proofs.Common.{◌≡◌, inl, inr, ⊎_elim, ℕ, ◌+◌, ◌≤◌, List, [], ◌∷◌, ◌++◌, length, take, append_assoc, length-append, refl, sym, ap, subst, ◌∙◌, arith}
+use Rattle.std.proofs.Common.{◌≡◌, ◌⊎◌, inl, inr, ⊎_elim, ℕ, ◌+◌, ◌≤◌, ◌<◌, List, [], ◌∷◌, ◌++◌, length, take, append_assoc, length-append, refl, sym, ap, subst, ◌∙◌, arith}
 use Rattle.std.proofs.lemmas.List.{append-nil}
 use Rattle.std.proofs.KnownBytes.{Appends-nil, Appends-trans}
 use Rattle.std.proofs.Math.Seq.{take-append-add}
@@ -8,7 +8,9 @@ use Rattle.std.specs.Io.KnownBytes.{Appends}
 use Rattle.ucon_base.specs.declared.no_memory.NoMemory.{NoMemory}
 use Rattle.ucon_tell.specs.Seen.{KeeperSeen, VoiceSeen}
 use Rattle.ucon_base.specs.Elements.{Each}
-use Rattle.ucon_tell.specs.Told.{IsCut, IsFrontOf, HavePerhapsBeenAnswered, TellsFronts, Told, lines_of, replies_of}
+use Rattle.ucon_flow.specs.Lines.{IsBare}
+use Rattle.ucon_tell.specs.Heard.{TakesHeld, adds_line}
+use Rattle.ucon_tell.specs.Told.{IsCut, AreAnsweredUntold, IsFrontOf, IsReplied, TellsFronts, Told, lines_of, replies_of}
 use Rattle.ucon_tell.specs.Talk.{AreAnswered, AreRounds, HasTalked, IsRefused, IsToldOnceKept, Round, ends_by, told_in, writes_by}
 use Rattle.ucon_tell.specs.declared.talk_fault.TalkFault.{TalkFault}
 use Rattle.ucon_tell.specs.declared.talk_fault.TalkFault.TheVariants as faults
@@ -52,6 +54,10 @@ wrote_on (Err faults.SourceFault) before between now xs ys p q = Appends-trans b
 wrote_on (Err faults.TooLong) before between now xs ys p q = Appends-trans before between now xs ys p q
 wrote_on (Err (faults.NoMemory e)) before between now xs ys p q = Appends-trans before between now xs ys p q
 
+-- what no sink's fault ends
+pub no_sink : (e : TalkFault) → (e ≡ faults.SinkFault → ⊥) → ◌≡◌ {A = Result (Unit {0}) TalkFault} (Err e) (Err faults.SinkFault) → ⊥
+no_sink e other bad = other (cc bad)
+
 module _ {K : Type 0} (answers : K → K → List Told → Type 0) (refuses : K → List ℕ → Type 0) (limit : ℕ) where
   rounds_append : (first mid last : K) (xs ys : List (Round K)) → AreRounds limit answers refuses first xs mid → AreRounds limit answers refuses mid ys last
       → AreRounds limit answers refuses first (xs ++ ys) last
@@ -75,7 +81,7 @@ module _ {K : Type 0} (seen : K → KeeperSeen) (stays : K → K → Type 0)
   }
 
   -- a keeper tried to answer lines, and found no memory
-  pub none_told : (e : NoMemory) (first last : K) (v : VoiceSeen) (hears : List ℕ → Type 0) → hears [] → ends_by answers (Err (faults.NoMemory e)) first last
+  pub none_told : (e : NoMemory) (first last : K) (v : VoiceSeen) (hears : List ℕ → Type 0) → hears [] → ends_by limit answers hears (Err (faults.NoMemory e)) first last
       → HasTalked seen stays answers refuses limit (Err (faults.NoMemory e)) first last v v hears
   none_told e first last v hears none perhaps = record {
     rounds = [];
@@ -90,18 +96,25 @@ module _ {K : Type 0} (seen : K → KeeperSeen) (stays : K → K → Type 0)
   -- a round was answered, and its replies told, at this moment
   pub round_told : (r : Result (Unit {0}) TalkFault) (first last : K) (told : List Told) (old new : VoiceSeen) (hears : List ℕ → Type 0)
       → AreAnswered limit answers first (record { told = told; after = last }) ⊎ IsRefused limit refuses first (record { told = told; after = last })
-      → ends_by answers r last last → writes_by r old.contents new.contents (replies_of told) → TellsFronts old new (replies_of told) (seen last).moment → hears (lines_of told)
+      → writes_by r old.contents new.contents (replies_of told) → TellsFronts old new (replies_of told) (seen last).moment → hears (lines_of told)
       → HasTalked seen stays answers refuses limit r first last old new hears
-  round_told r first last told old new hears answered ends written tells heard = record {
+  round_told r first last told old new hears answered written tells heard = record {
     rounds = record { told = told; after = last } ∷ [];
     heard = subst (λ (l : List Told). hears (lines_of l)) (sym (append-nil told)) heard;
     reached = last;
     answered = (answered, refl);
-    ends = ends;
+    ends = ends_here r;
     output = subst (λ (l : List Told). writes_by r old.contents new.contents (replies_of l)) (sym (append-nil told)) written;
     told = λ b t is. ⊎_elim inl (λ (h : (t ≡ (seen last).moment) × IfSome old.contents (λ held. IsCut held (replies_of told) b)). inr (by_held old.contents b t h.0 h.1)) (tells.nothing_else b t is);
   }
     where
+      ends_here : (s : Result (Unit {0}) TalkFault) → ends_by limit answers (λ more. hears (lines_of (told ++ []) ++ more)) s last last
+      ends_here (Ok done) = refl
+      ends_here (Err faults.SourceFault) = refl
+      ends_here (Err faults.SinkFault) = refl
+      ends_here (Err faults.TooLong) = refl
+      ends_here (Err (faults.NoMemory e)) = inl refl
+
       by_held : (o : Option (List ℕ)) (b : List ℕ) (t : ℕ) → t ≡ (seen last).moment → IfSome o (λ held. IsCut held (replies_of told) b)
           → IfSome o (λ held. IsToldOnceKept seen stays held (record { told = told; after = last } ∷ []) last b t)
       by_held None b t at cut = tt
@@ -117,6 +130,25 @@ module _ {K : Type 0} (seen : K → KeeperSeen) (stays : K → K → Type 0)
         kept = λ c since. kept last last t c (same last) (omega arith) (omega arith) since;
       }
 
+  -- a line that is too long was refused, and that told, at this moment
+  pub refusal_told : (r : Result (Unit {0}) TalkFault) (first : K) (line text : List ℕ) (old new : VoiceSeen) → IsBare line → limit ≤ length line → (IsReplied (refuses first) [] text)
+      → writes_by r old.contents new.contents text → TellsFronts old new text (seen first).moment → adds_line r line (line ++ 10 ∷ [])
+      → HasTalked seen stays answers refuses limit r first first old new (adds_line r line)
+  refusal_told r first line text old new bare long is written tells heard =
+      let told : List Told = record { line = line; reply = is.0 } ∷ [] in
+      let same : text ≡ replies_of told = is.3 ∙ sym (append-nil is.0) in
+      round_told r first first told old new (adds_line r line)
+      (inr (record { one = record { line = line; reply = is.0 }; alone = refl; line = bare; reply = is.1; long = long; refused = is.2; same = refl }))
+      (subst (λ (l : List ℕ). writes_by r old.contents new.contents l) same written)
+      (subst (λ (l : List ℕ). TellsFronts old new l (seen first).moment) same tells) heard
+
+  -- lines that were answered and not told are a front of what was held
+  pub untold_held : (limit' : ℕ) (held held' : List ℕ) (e : NoMemory) (old new : K) → limit' ≡ limit → held' ≡ held
+      → (old ≡ new) ⊎ AreAnsweredUntold limit' answers (λ lines. IsFrontOf lines held') old new
+      → ends_by limit answers (TakesHeld (Err (faults.NoMemory e)) held held) (Err (faults.NoMemory e)) old new
+  untold_held limit' held held' e old new same_limit same is =
+      subst (λ (z : ℕ × List ℕ). (old ≡ new) ⊎ AreAnsweredUntold z.0 answers (λ lines. IsFrontOf lines z.1) old new) (λ i. (same_limit i, same i)) is
+
   -- the same of another set of lines
   pub heard_so : (r : Result (Unit {0}) TalkFault) (first last : K) (old new : VoiceSeen) (hears_first hears : List ℕ → Type 0) → ((ls : List ℕ) → hears_first ls → hears ls)
       → HasTalked seen stays answers refuses limit r first last old new hears_first → HasTalked seen stays answers refuses limit r first last old new hears
@@ -125,10 +157,23 @@ module _ {K : Type 0} (seen : K → KeeperSeen) (stays : K → K → Type 0)
     heard = then (lines_of (told_in p.rounds)) p.heard;
     reached = p.reached;
     answered = p.answered;
-    ends = p.ends;
+    ends = ends r p.ends;
     output = p.output;
     told = p.told;
   }
+    where
+      ends : (s : Result (Unit {0}) TalkFault) → ends_by limit answers (λ more. hears_first (lines_of (told_in p.rounds) ++ more)) s p.reached last
+          → ends_by limit answers (λ more. hears (lines_of (told_in p.rounds) ++ more)) s p.reached last
+      ends (Ok done) e = e
+      ends (Err faults.SourceFault) e = e
+      ends (Err faults.SinkFault) e = e
+      ends (Err faults.TooLong) e = e
+      ends (Err (faults.NoMemory m)) e = ⊎_elim inl (λ (u : AreAnsweredUntold limit answers (λ more. hears_first (lines_of (told_in p.rounds) ++ more)) p.reached last). inr (record {
+        told = u.told;
+        each = u.each;
+        came = then (lines_of (told_in p.rounds) ++ lines_of u.told) u.came;
+        answer = u.answer;
+      })) e
 
   -- one conversation after the other
   pub talked_on : (r : Result (Unit {0}) TalkFault) (first mid last : K) (v0 v1 v2 : VoiceSeen) (hears_first hears_then hears : List ℕ → Type 0)
@@ -141,13 +186,30 @@ module _ {K : Type 0} (seen : K → KeeperSeen) (stays : K → K → Type 0)
     heard = subst hears (sym (lines_append p.rounds q.rounds)) (both (lines_of (told_in p.rounds)) (lines_of (told_in q.rounds)) p.heard q.heard);
     reached = q.reached;
     answered = rounds_append answers refuses limit first mid q.reached p.rounds q.rounds (subst (AreRounds limit answers refuses first p.rounds) p.ends p.answered) q.answered;
-    ends = q.ends;
+    ends = ends r q.ends;
     output = subst (λ (w : List ℕ). writes_by r v0.contents v2.contents w) (sym (replies_append p.rounds q.rounds))
         (wrote_on r v0.contents v1.contents v2.contents (replies_of (told_in p.rounds)) (replies_of (told_in q.rounds)) p.output q.output);
     told = λ b t is. ⊎_elim (λ (m : v1.told b t). ⊎_elim inl (λ (h : IfSome v0.contents (λ held. IsToldOnceKept seen stays held p.rounds mid b t)). inr (sooner v0.contents b t h)) (p.told b t m))
         (λ (h : IfSome v1.contents (λ held. IsToldOnceKept seen stays held q.rounds last b t)). inr (then v0.contents v1.contents p.output b t h)) (q.told b t is);
   }
     where
+      ends : (s : Result (Unit {0}) TalkFault) → ends_by limit answers (λ more. hears_then (lines_of (told_in q.rounds) ++ more)) s q.reached last
+          → ends_by limit answers (λ more. hears (lines_of (told_in (p.rounds ++ q.rounds)) ++ more)) s q.reached last
+      ends (Ok done) e = e
+      ends (Err faults.SourceFault) e = e
+      ends (Err faults.SinkFault) e = e
+      ends (Err faults.TooLong) e = e
+      ends (Err (faults.NoMemory m)) e = ⊎_elim inl (λ (u : AreAnsweredUntold limit answers (λ more. hears_then (lines_of (told_in q.rounds) ++ more)) q.reached last). inr (record {
+        told = u.told;
+        each = u.each;
+        came =
+            let more : List ℕ = lines_of u.told in
+            let all : lines_of (told_in p.rounds) ++ (lines_of (told_in q.rounds) ++ more) ≡ lines_of (told_in (p.rounds ++ q.rounds)) ++ more =
+            sym (append_assoc (lines_of (told_in p.rounds)) (lines_of (told_in q.rounds)) more) ∙ ap (λ (l : List ℕ). l ++ more) (sym (lines_append p.rounds q.rounds)) in
+            subst hears all (both (lines_of (told_in p.rounds)) (lines_of (told_in q.rounds) ++ more) p.heard u.came);
+        answer = u.answer;
+      })) e
+
       sooner : (o : Option (List ℕ)) (b : List ℕ) (t : ℕ) → IfSome o (λ held. IsToldOnceKept seen stays held p.rounds mid b t)
           → IfSome o (λ held. IsToldOnceKept seen stays held (p.rounds ++ q.rounds) last b t)
       sooner None b t h = tt
@@ -197,7 +259,7 @@ module _ {K : Type 0} (seen : K → KeeperSeen) (stays : K → K → Type 0)
     told = p.told;
   }
     where
-      ends : (s : Result (Unit {0}) TalkFault) → ends_by answers s p.reached last
+      ends : (s : Result (Unit {0}) TalkFault) → ends_by limit answers (λ more. hears (lines_of (told_in p.rounds) ++ more)) s p.reached last
       ends (Ok done) = p.ends
       ends (Err faults.SinkFault) = p.ends
       ends (Err faults.SourceFault) = p.ends

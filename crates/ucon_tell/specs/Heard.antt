@@ -2,6 +2,7 @@
 use Rattle.std.specs.Prelude.{◌≡◌, ⊤, ℕ, ◌-◌, ◌^◌, ◌<◌, ◌≤◌, Bool, true, false, List, [], ◌∷◌, ◌++◌, length, Option, Result, Ok, Err}
 use Rattle.std.specs.Io.KnownBytes.{Consumes, IsAtEnd}
 use Rattle.ucon_flow.specs.Lines.{Reading, Reads, HasNewline, IsBare, IsLine, first_line}
+use Rattle.ucon_tell.specs.Told.{IsFrontOf}
 use Rattle.ucon_tell.specs.declared.talk_fault.TalkFault.{TalkFault}
 use Rattle.ucon_tell.specs.declared.talk_fault.TalkFault.TheVariants as faults
 use Rattle.ucon_tell.specs.declared.talking.Heard.{Heard}
@@ -75,13 +76,13 @@ pub record SkipsNext {S : Type 0} (seen : S → SourceSeen) (result : Result Hea
   pub limit : new.limit ≡ old.limit
   pub by : SkippedAs result skipped new.held (seen last).left
 
--- these lines in front of what was held were answered, at least one, and the rest is held; or there was no memory for their replies
+-- These lines in front of what was held were answered, at least one, and the rest is held. If there was no memory for their replies they may have been.
 abbrev pub TakesHeld : Result (Unit {0}) TalkFault → List ℕ → List ℕ → List ℕ → Type 0
 TakesHeld (Ok done) before held lines = (before ≡ lines ++ held) × (0 < length lines)
 TakesHeld (Err faults.SourceFault) before held lines = ⊥
 TakesHeld (Err faults.SinkFault) before held lines = before ≡ lines ++ held
 TakesHeld (Err faults.TooLong) before held lines = ⊥
-TakesHeld (Err (faults.NoMemory e)) before held lines = lines ≡ []
+TakesHeld (Err (faults.NoMemory e)) before held lines = IsFrontOf lines before
 
 -- the line was refused, or there was no memory for its reply
 abbrev pub adds_line : Result (Unit {0}) TalkFault → List ℕ → List ℕ → Type 0

@@ -5,7 +5,7 @@ use Rattle.ucon_base.specs.Elements.{Each}
 use Rattle.ucon_flow.specs.Lines.{IsBare, IsLine}
 use Rattle.ucon_flow.specs.Writing.{AppendsPrefix}
 use Rattle.ucon_tell.specs.Seen.{KeeperSeen, VoiceSeen}
-use Rattle.ucon_tell.specs.Told.{HavePerhapsBeenAnswered, IsCut, IsWithin, Told, lines_of, replies_of}
+use Rattle.ucon_tell.specs.Told.{AreAnsweredUntold, IsCut, IsWithin, Told, lines_of, replies_of}
 use Rattle.ucon_tell.specs.declared.talk_fault.TalkFault.{TalkFault}
 use Rattle.ucon_tell.specs.declared.talk_fault.TalkFault.TheVariants as faults
 
@@ -40,14 +40,13 @@ AreRounds limit answers refuses first [] last = first ≡ last
 AreRounds limit answers refuses first (r ∷ rounds) last =
     (AreAnswered limit answers first r ⊎ IsRefused limit refuses first r) × AreRounds limit answers refuses r.after rounds last
 
--- The keeper is as it was when it had answered the last round. If there was no memory for a reply, it may have answered lines more, of which nobody is
--- told.
-abbrev pub ends_by : {K : Type 0} → (K → K → List Told → Type 0) → Result (Unit {0}) TalkFault → K → K → Type 0
-ends_by answers (Ok done) reached last = reached ≡ last
-ends_by answers (Err faults.SourceFault) reached last = reached ≡ last
-ends_by answers (Err faults.SinkFault) reached last = reached ≡ last
-ends_by answers (Err faults.TooLong) reached last = reached ≡ last
-ends_by answers (Err (faults.NoMemory e)) reached last = HavePerhapsBeenAnswered answers reached last
+-- The keeper is as it was when it had answered the last round. If there was no memory for a reply, it may have answered lines that came next, too.
+abbrev pub ends_by : {K : Type 0} → ℕ → (K → K → List Told → Type 0) → (List ℕ → Type 0) → Result (Unit {0}) TalkFault → K → K → Type 0
+ends_by limit answers comes (Ok done) reached last = reached ≡ last
+ends_by limit answers comes (Err faults.SourceFault) reached last = reached ≡ last
+ends_by limit answers comes (Err faults.SinkFault) reached last = reached ≡ last
+ends_by limit answers comes (Err faults.TooLong) reached last = reached ≡ last
+ends_by limit answers comes (Err (faults.NoMemory e)) reached last = (reached ≡ last) ⊎ AreAnsweredUntold limit answers comes reached last
 
 -- the replies went out whole, unless the voice failed
 abbrev pub writes_by : Result (Unit {0}) TalkFault → Option (List ℕ) → Option (List ℕ) → List ℕ → Type 0
@@ -80,6 +79,6 @@ module _ {K : Type 0} (seen : K → KeeperSeen) (stays : K → K → Type 0) whe
     pub heard : hears (lines_of (told_in rounds))
     pub reached : K
     pub answered : AreRounds limit answers refuses first rounds reached
-    pub ends : ends_by answers result reached last
+    pub ends : ends_by limit answers (λ more. hears (lines_of (told_in rounds) ++ more)) result reached last
     pub output : writes_by result before.contents now.contents (replies_of (told_in rounds))
     pub told : (b : List ℕ) (t : ℕ) → now.told b t → before.told b t ⊎ IfSome before.contents (λ held. IsToldOnceKept held rounds last b t)

@@ -57,9 +57,12 @@ pub record AreReplied (limit : ℕ) (so : List Told → Type 0) (held : List ℕ
   pub len : n ≡ length (lines_of told)
   pub text : new ≡ old ++ replies_of told
 
--- nothing was done, or lines were answered so, and nobody is told
-abbrev pub HavePerhapsBeenAnswered : {K : Type 0} → (K → K → List Told → Type 0) → K → K → Type 0
-HavePerhapsBeenAnswered answers old new = (old ≡ new) ⊎ ((told : List Told) × answers old new told)
+-- Lines within the limit that came next were answered, and nobody is told.
+pub record AreAnsweredUntold {K : Type 0} (limit : ℕ) (answers : K → K → List Told → Type 0) (comes : List ℕ → Type 0) (before after : K) : Type 0 where
+  pub told : List Told
+  pub each : Each (λ t. IsBare t.line × (length t.line < limit)) told
+  pub came : comes (lines_of told)
+  pub answer : answers before after told
 
 -- one line, of which this is so, was added to a text
 abbrev pub IsReplied : (List ℕ → Type 0) → List ℕ → List ℕ → Type 0

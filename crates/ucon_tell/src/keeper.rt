@@ -1,9 +1,9 @@
 //! Who answers lines.
 
-ghost use Rattle.std.specs.Prelude.{◌≤◌, ◌<◌, ℕ, List, IfOk, OnErr, OnOk};
+ghost use Rattle.std.specs.Prelude.{◌≡◌, ◌⊎◌, ◌≤◌, ◌<◌, ℕ, List, IfOk, OnErr, OnOk};
 ghost use Rattle.ucon_flow.specs.Lines.{HasNewline, newline};
 ghost use Rattle.ucon_tell.specs.Seen.{KeeperSeen};
-ghost use Rattle.ucon_tell.specs.Told.{AreReplied, HavePerhapsBeenAnswered, IsFrontOf, IsReplied, Told, lines_of};
+ghost use Rattle.ucon_tell.specs.Told.{AreAnsweredUntold, AreReplied, IsFrontOf, IsReplied, Told};
 
 use std::alloc::Global;
 use ucon_base::NoMemory;
@@ -36,7 +36,7 @@ pub trait Keeper {
         requires whole { HasNewline came.now }
         requires fits { newline came.now < limit }
         ensures reply { IfOk result (λ n. AreReplied limit (answers self.old self.new) came.now n text.old.items text.new.items) }
-        ensures failed { OnErr result (HavePerhapsBeenAnswered (λ x y told. answers x y told × IsFrontOf (lines_of told) came.now) self.old self.new) }
+        ensures failed { OnErr result ((self.old ≡ self.new) ⊎ AreAnsweredUntold limit answers (λ lines. IsFrontOf lines came.now) self.old self.new) }
         ensures stays { stays self.old self.new };
 
     /// Adds the reply to a line that is too long, which nobody has read.

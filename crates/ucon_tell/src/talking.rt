@@ -152,6 +152,7 @@ fn refuse<K: Keeper, V: Voice<K>>(
 ) -> Result<(), TalkFault>
     ensures talked { (limit : ℕ) (line : List ℕ) → IsBare line → limit ≤ length line
         → HasTalked K.seen K.stays K.answers K.refuses limit result keeper.now keeper.now (V.seen out.old) (V.seen out.new) (adds_line result line) }
+    ensures unread { result ≢ Err TalkFault.SourceFault }
     ensures failed { IsErrOf result TalkFault.SinkFault → (V.seen out.new).faults ≡ raised (V.seen out.old).faults }
     ensures unfailed { result ≢ Err TalkFault.SinkFault → (V.seen out.new).faults ≡ (V.seen out.old).faults }
 {
