@@ -6,6 +6,7 @@ pub mod Conversing
 pub mod Dated
 pub mod Ended
 pub mod Faulty
+pub mod Fronts
 pub mod Leads
 pub mod Long
 pub mod OneLine
