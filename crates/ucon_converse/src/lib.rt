@@ -26,7 +26,6 @@ mod reading_texts;
 mod recorded;
 mod requests;
 mod telling;
-mod voice;
 
 pub use holding::{MOST_LINE, hold};
 pub use keeper::StoreKeeper;
@@ -34,4 +33,3 @@ pub use laws::{readings_are_no_requests, readings_are_read_back};
 pub use opening::{PolicyFrom, converse};
 pub use pointing::FEWEST_STEPS;
 pub use reading::Reading;
-pub use voice::SinkVoice;

@@ -13,10 +13,11 @@ use std::process::ExitCode;
 use std::rt::{Env, Files};
 use ucon_base::NoMemory;
 use ucon_cascade::Monitor;
-use ucon_converse::{PolicyFrom, SinkVoice, converse};
+use ucon_converse::{PolicyFrom, converse};
 use ucon_disk::FileDisk;
 use ucon_flow::{ReadSource, WriteSink};
 use ucon_outcome::{Outcome, report};
+use ucon_tell::SinkVoice;
 
 fn main(rt: HostRuntime) -> ExitCode {
     let alloc = rt.alloc();

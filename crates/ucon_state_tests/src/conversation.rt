@@ -3,9 +3,10 @@
 use std::alloc::Global;
 use std::test::Fail;
 use ucon_cascade::Monitor;
-use ucon_converse::{PolicyFrom, SinkVoice, converse};
+use ucon_converse::{PolicyFrom, converse};
 use ucon_disk::MemDisk;
 use ucon_flow::{MemSink, MemSource};
+use ucon_tell::SinkVoice;
 
 /// How a conversation ended: its status, all that it told, and its disk.
 #[derive(Drop)]

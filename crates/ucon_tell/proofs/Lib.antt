@@ -1,3 +1,4 @@
+pub mod Dating
 pub mod Fronts
 pub mod Hearing
 pub mod Noting

@@ -1,3 +1,4 @@
+pub mod Dated
 pub mod Faults
 pub mod Heard
 pub mod Noted

@@ -12,8 +12,10 @@
 //! then `talking.rt`.
 #![tactic(auto)]
 
+mod dated;
 mod keeper;
 mod memory;
+mod sink_voice;
 mod talk_fault;
 mod talking;
 mod telling;
@@ -21,6 +23,7 @@ mod voice;
 
 pub use keeper::Keeper;
 pub use memory::{Clocked, MemVoice, Note};
+pub use sink_voice::SinkVoice;
 pub use talk_fault::TalkFault;
 pub use talking::talk;
 pub use telling::tell_all;
