@@ -1,17 +1,17 @@
 -- Lines as they come.
 use Rattle.std.proofs.Common.{◌≡◌, ℕ, ◌+◌, ◌-◌, ◌^◌, ◌≤◌, ◌<◌, List, [], ◌∷◌, ◌++◌, length, refl, sym, ap, ◌∙◌, subst, ⊎_elim, append_assoc, arith, length-append}
-use Rattle.std.specs.Prelude.{◌==◌, not, Bool, true, false, Option, Result, Ok, Err}
-use Rattle.std.specs.Io.KnownBytes.{Consumes, IsAtEnd}
+use Rattle.std.specs.Prelude.{◌==◌, not, Option, Result, Ok, Err}
+use Rattle.std.specs.Io.KnownBytes.{IsAtEnd}
 use Rattle.std.proofs.KnownBytes.{Consumes-nil, Consumes-trans}
 use Rattle.std.proofs.lemmas.List.{append-nil}
 use Rattle.std.proofs.lemmas.List.Folds.{prefix_len-append}
 use Rattle.ucon_flow.specs.Lines.{Reading, newline, HasNewline, IsBare, first_line, Holds}
-use Rattle.ucon_flow.proofs.Lines.{line_len, newline_behind, newline_stays, bare_or_not, held_of}
+use Rattle.ucon_flow.proofs.Lines.{line_len, newline_behind, bare_or_not, held_of}
 use Rattle.ucon_tell.specs.declared.talk_fault.TalkFault.{TalkFault}
 use Rattle.ucon_tell.specs.declared.talk_fault.TalkFault.TheVariants as faults
 use Rattle.ucon_tell.specs.declared.talking.Heard.{Heard}
 use Rattle.ucon_tell.specs.declared.talking.Heard.TheVariants.{Lines, TooLong, Over}
-use Rattle.ucon_tell.specs.Heard.{HoldsLines, LeftBy, Hears, HearsNext, HearsRound, SkipsLine, SkipsNext, TakesHeld, TakesLines, adds_line}
+use Rattle.ucon_tell.specs.Heard.{HoldsLines, LeftBy, Hears, HearsNext, SkipsLine, SkipsNext, TakesHeld, TakesLines, adds_line}
 use Rattle.ucon_flow.specs.Seen.{SourceSeen}
 
 -- ---- newlines

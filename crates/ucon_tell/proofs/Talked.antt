@@ -7,7 +7,6 @@ use Rattle.std.specs.Prelude.{Option, Some, None, IfSome, Result, Ok, Err}
 use Rattle.std.specs.Io.KnownBytes.{Appends}
 use Rattle.ucon_base.specs.declared.no_memory.NoMemory.{NoMemory}
 use Rattle.ucon_tell.specs.Seen.{KeeperSeen, VoiceSeen}
-use Rattle.ucon_base.specs.Elements.{Each}
 use Rattle.ucon_flow.specs.Lines.{IsBare}
 use Rattle.ucon_tell.specs.Heard.{TakesHeld, adds_line}
 use Rattle.ucon_tell.specs.Told.{IsCut, AreAnsweredUntold, IsFrontOf, IsReplied, TellsFronts, Told, lines_of, replies_of}

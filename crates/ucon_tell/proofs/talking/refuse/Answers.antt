@@ -1,4 +1,4 @@
-use Rattle.std.proofs.Common.{◌≡◌, Ok, Err, ℕ, List, [], refl, sym, subst}
+use Rattle.std.proofs.Common.{Ok, Err, ℕ, List, [], refl, sym, subst}
 use Rattle.ucon_tell.specs.Told.{IsReplied}
 use Rattle.ucon_tell.specs.declared.talk_fault.TalkFault.TheVariants as faults
 use Rattle.ucon_tell.proofs.Talked.{refusal_told}

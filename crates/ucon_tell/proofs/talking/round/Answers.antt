@@ -1,4 +1,4 @@
-use Rattle.std.proofs.Common.{rules, ◌≡◌, Ok, Err, Bool, true, ℕ, List, [], refl, sym, subst}
+use Rattle.std.proofs.Common.{rules, ◌≡◌, Ok, Err, Bool, ℕ, List, [], refl, sym, subst}
 use Rattle.std.specs.Prelude.{Result}
 use Rattle.ucon_tell.specs.Heard.{Hears, HearsNext, HearsRound, HoldsLines, SkipsLine, TakesHeld, TakesLines, adds_line, by_round}
 use Rattle.ucon_tell.specs.Talk.{HasTalked}

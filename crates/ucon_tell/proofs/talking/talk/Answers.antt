@@ -1,6 +1,6 @@
 use Rattle.std.proofs.Common.{rules, ◌≡◌, ◌+◌, Ok, Err, Bool, true, false, ℕ, List, arith, refl, sym, subst}
 use Rattle.std.specs.Prelude.{Result}
-use Rattle.ucon_tell.specs.Heard.{Hears, HearsRound, TakesLines, by_round}
+use Rattle.ucon_tell.specs.Heard.{Hears, HearsRound, TakesLines}
 use Rattle.ucon_tell.specs.Talk.{HasTalked}
 use Rattle.ucon_tell.specs.declared.talk_fault.TalkFault.{TalkFault}
 use Rattle.ucon_tell.specs.declared.talk_fault.TalkFault.TheVariants as faults
@@ -50,6 +50,28 @@ returns-in_err-round-clause-talked g c =
 
 pub returns-in_err-round-clause-stays : goal.returns-in_err-round-clause-stays
 returns-in_err-round-clause-stays g c = g.met.K.Keeper.again c.args.keeper.now c.loop-round.keeper c.round.new.keeper c.loop-round.invariant.stays c.round.ensures.stays
+
+pub returns-then-not-branch-clause-talked : goal.returns-then-not-branch-clause-talked
+returns-then-not-branch-clause-talked g c =
+    let n = c.loop-round._round in
+    let limit = c.args.lines.now.limit in
+    let h0 = c.args.lines.now.held in
+    let h = c.loop-round.lines.held in
+    let l0 = (g.S.Source.seen c.args.input.now).left in
+    let l = (g.S.Source.seen c.loop-round.input).left in
+    let first = c.args.keeper.now in
+    let mid = c.loop-round.keeper in
+    let v0 = g.V.Voice.seen c.args.out.now in
+    let v1 = g.V.Voice.seen c.loop-round.out in
+    let h1 = c.round.new.lines.held in
+    let l1 = (g.S.Source.seen c.round.new.input).left in
+    let last = c.round.new.keeper in
+    let v2 = g.V.Voice.seen c.round.new.out in
+    let so_far : List ℕ → Type 0 = TakesLines n h0 h l0 l in
+    let over : c.in_ok-round.field-0 ≡ false = search rules in
+    let one = subst (λ (z : Bool × ℕ). HasTalked g.K.Keeper.seen g.K.Keeper.stays g.K.Keeper.answers g.K.Keeper.refuses z.1 (Ok tt) mid last v1 v2 (HearsRound (Ok z.0) h h1 l l1)) (λ i. (over i, c.loop-round.invariant.limit i)) c.in_ok-round.ensures.talked in
+    talked_on g.K.Keeper.seen g.K.Keeper.stays g.met.K.Keeper.kept g.met.K.Keeper.onward g.met.K.Keeper.same g.met.K.Keeper.again g.K.Keeper.answers g.K.Keeper.refuses limit (Ok tt) first mid last v0 v1 v2 so_far (Hears (Ok tt) h h1 l l1) (Hears (Ok tt) h0 h1 l0 l1) (λ ls more p q. hears_on (Ok tt) n h0 h h1 l0 l l1 ls more p q)
+    c.round.ensures.stays c.loop-round.invariant.talked one
 
 pub loop-round-preserved : goal.loop-round-preserved
 loop-round-preserved g c =
