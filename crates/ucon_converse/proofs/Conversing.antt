@@ -13,7 +13,6 @@ use Rattle.ucon_model.specs.LegalRun.{Answered, IsLegalRun, history_made, in_tex
 use Rattle.ucon_model.specs.Plain.{Bytes, PlainPolicy}
 use Rattle.ucon_model.specs.StoredRun.{LeadsTo, failed_line}
 use Rattle.ucon_store.specs.Kept.{Kept}
-use Rattle.ucon_store.specs.Marks.{marked}
 use Rattle.ucon_store.specs.Points.{SameKind, has_points, text_in_force}
 use Rattle.ucon_store.specs.Starts.{IsStart, text_at_start}
 use Rattle.ucon_store.specs.Whole.{IsFront}
@@ -26,7 +25,7 @@ use Rattle.ucon_tell.specs.declared.talk_fault.TalkFault.{TalkFault}
 use Rattle.ucon_tell.specs.declared.talk_fault.TalkFault.TheVariants as faults
 use Rattle.ucon_turn.specs.Lists.{Begins}
 use Rattle.ucon_converse.specs.Answering.{Answering}
-use Rattle.ucon_converse.specs.Conversation.{HasConversedBy, IsRunOver, IsStoppedBy, IsToldOnceKeptBy, behind, goes_out}
+use Rattle.ucon_converse.specs.Conversation.{HasConversedBy, IsMarkOf, IsRunOver, IsStoppedBy, IsToldOnceKeptBy, behind, goes_out}
 use Rattle.ucon_converse.specs.Exchanges.{Exchange, IsAnswered, lines_in, replies_in}
 use Rattle.ucon_converse.specs.Greeting.{HasGreeted}
 use Rattle.ucon_converse.specs.Holding.{IsFoundPast, IsFoundedAt, standing}
@@ -212,8 +211,9 @@ module _ {D : Type 0} (seen : D → DiskSeen) (only : (d : D) (c : List ℕ) →
 
         -- how it is stopped, by its last line
         stopped_so : (reached : Standing) (run over : List Answered) (failed : Option Entry) → failed_line run ≡ failed
-            → ((reached.failed ≡ marked failed) × (over ≡ [])) ⊎ ((reached.failed ≡ Some []) × (failed ≡ None)) → IsStoppedBy reached.failed run over
-        stopped_so reached run over failed is (inl by_line) = inl (by_line.0 ∙ ap marked (sym is), by_line.1)
+            → (IsMarkOf P reached.history reached.failed run × (over ≡ [])) ⊎ ((reached.failed ≡ Some []) × (failed ≡ None))
+            → IsStoppedBy P reached.history reached.failed run over
+        stopped_so reached run over failed is (inl by_line) = inl by_line
         stopped_so reached run over failed is (inr by_point) = inr (by_point.0, is ∙ by_point.1)
 
         runs_so : (reached : Standing) (told : List Answered) → LeadsOver P (standing G places first) reached told

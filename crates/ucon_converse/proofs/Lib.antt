@@ -7,6 +7,7 @@ pub mod Dated
 pub mod Ended
 pub mod Faulty
 pub mod Fronts
+pub mod Growing
 pub mod Leads
 pub mod Long
 pub mod OneLine
@@ -16,6 +17,8 @@ pub mod ReadingExamples
 pub mod Records
 pub mod Rounds
 pub mod Stepping
+pub mod Taking
 pub mod Tellings
+pub mod Together
 pub mod Unasked
 pub mod Unpointed

@@ -1,14 +1,13 @@
 -- A conversation over a store, from its first line to its last, as it is seen from outside.
-use Rattle.std.specs.Prelude.{◌≡◌, ◌⊎◌, ℕ, List, [], ◌∷◌, ◌++◌, length, Option, Some, None, IfSome, Result, Ok, Err}
+use Rattle.std.specs.Prelude.{◌≡◌, ◌⊎◌, ℕ, List, [], ◌∷◌, ◌++◌, length, Option, Some, None, IfSome, Result, Ok, Err, true, false, ⊤}
 use Rattle.std.specs.Io.KnownBytes.{Appends}
 use Rattle.ucon_base.specs.Elements.{Each}
 use Rattle.ucon_disk.specs.Seen.{DiskSeen}
 use Rattle.ucon_flow.specs.Writing.{AppendsPrefix}
-use Rattle.ucon_model.specs.History.{History}
-use Rattle.ucon_model.specs.LegalRun.{Answered, IsLegalRun, history_made, in_text_order, stopped}
+use Rattle.ucon_model.specs.History.{History, changes, said}
+use Rattle.ucon_model.specs.LegalRun.{Answered, IsLegalRun, disk_fault, history_made, in_text_order, is_disk_fault, stopped}
 use Rattle.ucon_model.specs.Plain.{Bytes, PlainPolicy}
 use Rattle.ucon_model.specs.StoredRun.{failed_line}
-use Rattle.ucon_store.specs.Marks.{marked}
 use Rattle.ucon_store.specs.Points.{PolicyReading}
 use Rattle.ucon_tell.specs.Seen.{VoiceSeen}
 use Rattle.ucon_converse.specs.Exchanges.{AnswersEach, Exchange, lines_in, replies_in}
@@ -43,9 +42,24 @@ pub record IsToldOnceKeptBy (reads : PolicyReading) (text : Bytes) (disk : DiskS
   pub bytes : IsFrontOf b (held ++ ready_line (length opening.history) ++ replies_in by_then)
   pub kept : (c : Bytes) → disk.images_since t c → IsFoundPastBy reads text (behind opening by_then) c
 
+-- these entries are those of some of these lines, in their order, each of which would change something behind the history and those before it
+abbrev pub AreInDoubt : PlainPolicy → History → History → List Answered → Type 0
+AreInDoubt P H [] run = ⊤
+AreInDoubt P H (e ∷ es) [] = ⊥
+AreInDoubt P H (e ∷ es) (t ∷ run) =
+    ((t.line ≡ e) × (changes (said P H e.caller e.command) ≡ true) × AreInDoubt P (H ++ e ∷ []) es run) ⊎ AreInDoubt P H (e ∷ es) run
+
+-- The mark of a store that answered so, where this history was reached. Without a disk fault it has none. Else the line that met it is in doubt, and
+-- with it lines that were to be written together with it, whose answer is that the disk had failed.
+abbrev pub IsMarkOf : PlainPolicy → History → Option History → List Answered → Type 0
+IsMarkOf P H mark [] = mark ≡ None
+IsMarkOf P H mark (t ∷ run) =
+    ((t.answer ≡ disk_fault) × ((es : History) × (mark ≡ Some (t.line ∷ es)) × AreInDoubt P (H ++ t.line ∷ []) es run))
+    ⊎ ((is_disk_fault t.answer ≡ false) × IsMarkOf P H mark run)
+
 -- it is stopped by the line of the run that met a disk fault, if one did, and then no line is left over; or by a checkpoint, and no line met one
-abbrev pub IsStoppedBy : Option History → (run over : List Answered) → Type 0
-IsStoppedBy mark run over = ((mark ≡ marked (failed_line run)) × (over ≡ [])) ⊎ ((mark ≡ Some []) × (failed_line run ≡ None))
+abbrev pub IsStoppedBy : PlainPolicy → History → Option History → (run over : List Answered) → Type 0
+IsStoppedBy P H mark run over = (IsMarkOf P H mark run × (over ≡ [])) ⊎ ((mark ≡ Some []) × (failed_line run ≡ None))
 
 -- The answers are a legal run in text order behind the opening history, which made the history that was reached. If a checkpoint met a disk fault, each
 -- answer behind it is that the disk had failed, and these follow the run.
@@ -56,7 +70,7 @@ pub record IsRunOver (P : PlainPolicy) (opening : History) (told : List Answered
   pub legal : IsLegalRun P in_text_order opening run
   pub made : history_made opening run ≡ reached.history
   pub stops : Each (λ t. t.answer ≡ stopped) over
-  pub failed : IsStoppedBy reached.failed run over
+  pub failed : IsStoppedBy P reached.history reached.failed run over
 
 -- Lines, of which this is so, were answered one by one, each by one line, from an opening standing on. The answers to the requests among them are a legal
 -- run in text order behind the opening history, up to a checkpoint that met a disk fault, if one did. A reading takes no part in it, and is told of the

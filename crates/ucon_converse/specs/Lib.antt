@@ -16,3 +16,4 @@ pub mod Readings
 pub mod Replies
 pub mod Requests
 pub mod Said
+pub mod Together

@@ -3,8 +3,7 @@
 ghost use Rattle.std.specs.Prelude.{◌≡◌, ◌+◌, length};
 ghost use Rattle.ucon_converse.specs.Keeping.{IsLed};
 
-use crate::answering::answer_line;
-use crate::fronts::line_in_front;
+use crate::answering::answer_front;
 use crate::lines::put_refusal;
 use crate::points::{Places, Points};
 use std::alloc::Global;
@@ -97,13 +96,14 @@ impl<E: Engine, D: Disk> Keeper for StoreKeeper<E, D> {
         limit: usize,
         text: &mut Vec<u8>,
     ) -> Result<usize, NoMemory> {
-        match line_in_front(came, limit) {
-            Some(line) => {
-                answer_line(alloc, &mut self.store, &mut self.points, line, text)?;
-                Ok(line.len() + 1)
-            }
-            None => unreachable!(),
-        }
+        answer_front(
+            alloc,
+            &mut self.store,
+            &mut self.points,
+            came,
+            limit,
+            text,
+        )
     }
 
     fn too_long(&self, text: &mut Vec<u8>) -> Result<(), NoMemory> {

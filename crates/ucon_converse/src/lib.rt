@@ -26,6 +26,7 @@ mod reading_texts;
 mod recorded;
 mod requests;
 mod telling;
+mod together;
 
 pub use holding::{MOST_LINE, hold};
 pub use keeper::StoreKeeper;
