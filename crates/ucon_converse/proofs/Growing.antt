@@ -65,7 +65,7 @@ not_due since size lt = by (nat_le 4096 since) (nat_lt size since) refl refl
 
 -- where so many steps more make none due, fewer entries behind make none due
 pub due_later : (P : PlainPolicy) (tried room place was : ℕ) (H es : History) → place ≡ length H → was ≡ size_of (held_after P (trace P H)) → length es < room
-    → room + (place - tried) ≤ max 4096 (was + 1) → is_due_after P tried (H ++ es) ≡ false
+    → room ≤ max 4096 (was + 1) - (place - tried) → is_due_after P tried (H ++ es) ≡ false
 due_later P tried room place was H es count at few within =
     let long = length-append H es in
     let grown : size (trace P H) ≤ size (trace P (H ++ es)) =

@@ -7,6 +7,7 @@ pub mod Dated
 pub mod Ended
 pub mod Faulty
 pub mod Fronts
+pub mod Giving
 pub mod Growing
 pub mod Leads
 pub mod Long
@@ -14,6 +15,7 @@ pub mod OneLine
 pub mod PolicyLines
 pub mod ReadingBack
 pub mod ReadingExamples
+pub mod Putting
 pub mod Records
 pub mod Rounds
 pub mod Stepping

@@ -115,3 +115,44 @@ module _ {D : Type 0} (dated : Type 0) (P : PlainPolicy) (text : Bytes) (G : His
       unheard_steps lines refl some taken (count (λ bad. cc bad)) (all (λ bad. cc bad)) (mark (λ bad. cc bad))
   steps_unanswered ends.DiskFault ps taken no some halted all_taken full is count few within all mark same failed sure first =
       failed_steps ps taken is (few refl) within (same refl) (failed refl) (sure refl) (first refl)
+
+-- ---- some line is answered
+
+some_replied_is : (lines : List Entry) (ps : List Placed) → 0 < length lines → 0 < length ps → 0 < length (replied lines ps)
+some_replied_is [] ps some more = absurd (let no : ⊥ = omega arith in no)
+some_replied_is (e ∷ lines) [] some more = absurd (let no : ⊥ = omega arith in no)
+some_replied_is (e ∷ lines) (p ∷ ps) some more = omega arith
+
+some_unheard : (lines : List Entry) → 0 < length lines → 0 < length (unheard_first lines)
+some_unheard [] some = absurd (let no : ⊥ = omega arith in no)
+some_unheard (e ∷ lines) some = omega arith
+
+some_failed : (lines : List Entry) (ps : List Placed) (taken : ℕ) → length ps < taken → taken ≤ length lines → 0 < length (replied lines ps ++ broken_off (drop (length ps) (take taken lines)))
+some_failed [] ps taken few within = absurd (let no : ⊥ = omega arith in no)
+some_failed (e ∷ lines) (p ∷ ps) taken few within = omega arith
+some_failed (e ∷ lines) [] 0 few within = absurd (let no : ⊥ = omega arith in no)
+some_failed (e ∷ lines) [] (suc taken) few within = omega arith
+
+pub some_answered : (end : BatchEnd) (lines : List Entry) (ps : List Placed) (taken : ℕ) → 0 < length lines → (end ≡ ends.Stopped → ⊥) → (end ≡ ends.All → taken ≡ length lines)
+    → (end ≡ ends.Full → 0 < taken) → (end ≢ ends.DiskFault → length ps ≡ taken) → (end ≡ ends.DiskFault → length ps < taken) → taken ≤ length lines
+    → 0 < length (answered_so end lines ps taken)
+some_answered ends.All lines ps taken some halted all full count few within =
+    let every = all refl in let same : length ps ≡ taken = count (λ bad. cc bad) in some_replied_is lines ps some (omega arith)
+some_answered ends.Full lines ps taken some halted all full count few within =
+    let one = full refl in let same : length ps ≡ taken = count (λ bad. cc bad) in some_replied_is lines ps some (omega arith)
+some_answered (ends.NoMemory e) lines [] taken some halted all full count few within = some_unheard lines some
+some_answered (ends.NoMemory e) lines (p ∷ ps) taken some halted all full count few within = some_replied_is lines (p ∷ ps) some (omega arith)
+some_answered ends.DiskFault lines ps taken some halted all full count few within = some_failed lines ps taken (few refl) within
+some_answered ends.Stopped lines ps taken some halted all full count few within = absurd (halted refl)
+
+never_failed : (ps : List Placed) → is_answered ends.DiskFault ps ≡ true → ⊥
+never_failed [] is = cc is
+never_failed (p ∷ ps) is = cc is
+
+-- replies that hold were given where the disk hadn't failed
+pub answered_no_fault : (end : BatchEnd) (ps : List Placed) → is_answered end ps ≡ true → end ≡ ends.DiskFault → ⊥
+answered_no_fault end ps yes is = never_failed ps (subst (λ (e : BatchEnd). is_answered e ps ≡ true) is yes)
+
+pub never_stopped : {A : Type 0} (o : Option A) → o ≡ None → IsSome o → ⊥
+never_stopped None none some = let no : false ≡ true = some in cc no
+never_stopped (Some a) none some = cc none

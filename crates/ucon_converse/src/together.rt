@@ -123,6 +123,7 @@ pub(crate) fn take_together<E: Engine, D: Disk>(
     ensures steps { (P : PlainPolicy) (G : History) (places : List ℕ) → accepted store.old.policy ≡ Some P → IsFront P store.old G
         → StepEach (IsDated (D.seen store.old.disk).contents) P store.old.policy (standing G places (answering store.old points.old))
         (answered_in lines.now result) (standing G places (answering store.new points.new)) }
+    ensures some { 0 < length (answered_in lines.now result) }
     ensures within { length result.placed.items ≤ result.taken }
     ensures taken { result.taken ≤ length lines.now }
     ensures keeps { Keeps D.seen (answering store.old points.old) (answering store.new points.new) }
@@ -190,14 +191,11 @@ fn put_replies(
     ensures { OnOk result (ArePut (replied lines.now placed.now) out.old.items out.new.items) }
 {
     let mut lines = lines;
-    for one in placed {
-        match lines.split_first() {
-            Some((asked, others)) => {
-                put_placed(alloc, out, asked.caller, one)?;
-                lines = others;
-            }
-            None => break,
-        }
+    let mut placed = placed;
+    while let (Some((asked, others)), Some((one, more))) = (lines.split_first(), placed.split_first()) {
+        put_placed(alloc, out, asked.caller, one)?;
+        lines = others;
+        placed = more;
     }
     Ok(())
 }
@@ -217,8 +215,10 @@ fn put_broken_off(alloc: Global, out: &mut Vec<u8>, lines: &[Entry]) -> Result<(
 fn put_stopped(alloc: Global, out: &mut Vec<u8>, lines: &[Entry]) -> Result<(), NoMemory>
     ensures { OnOk result (ArePut (all_stopped lines.now) out.old.items out.new.items) }
 {
-    for asked in lines {
+    let mut lines = lines;
+    while let Some((asked, others)) = lines.split_first() {
         put_answer(alloc, out, asked.caller, &Err(StepFault::Stopped))?;
+        lines = others;
     }
     Ok(())
 }
