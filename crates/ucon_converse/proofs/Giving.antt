@@ -24,7 +24,7 @@ use Rattle.ucon_converse.specs.Keeping.{GivesReplies, GivesReply, IsDated, Keeps
 use Rattle.ucon_converse.specs.Replies.{AreGivenBy, Standing}
 use Rattle.ucon_converse.specs.Requests.{IsRequestBy}
 use Rattle.ucon_converse.specs.Together.{AreInFront, ArePut, IsInFront, StepEach, all_stopped, answered_so, broken_off, replied, unheard_first}
-use Rattle.ucon_converse.proofs.Fronts.{one_replied}
+use Rattle.ucon_converse.proofs.InFront.{one_replied}
 
 -- ---- requests in front of what came
 

@@ -265,8 +265,8 @@ module _ (reads : PolicyReading) (P : PlainPolicy) (text : Bytes) (old : Type 0)
       marked_on : (t : Answered) (run over : List Answered) (failed : Option Entry) → is_disk_fault t.answer ≡ false
           → (IsMarkOf P last.history last.failed run × (over ≡ [])) ⊎ ((last.failed ≡ Some []) × (failed ≡ None))
           → (IsMarkOf P last.history last.failed (t ∷ run) × (over ≡ [])) ⊎ ((last.failed ≡ Some []) × (failed ≡ None))
-      marked_on t run over failed no (inl m) = inl (inr (no, m.0), m.1)
-      marked_on t run over failed no (inr m) = inr m
+      marked_on t run over failed calm (inl m) = inl (inr (calm, m.0), m.1)
+      marked_on t run over failed calm (inr m) = inr m
 
       by_step : (IsSome x.after.failed → Run x.after last xs (AreStopped P x.after last)) → (x.after.failed ≡ None → Run x.after last xs (LeadsOver P x.after last))
           → (a : IsAskedAndAnswered reads P text old first x.after x.line x.reply) → Drifts a.steps.between x.after

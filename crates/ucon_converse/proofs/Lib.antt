@@ -6,7 +6,7 @@ pub mod Conversing
 pub mod Dated
 pub mod Ended
 pub mod Faulty
-pub mod Fronts
+pub mod InFront
 pub mod Giving
 pub mod Growing
 pub mod Leads
@@ -21,6 +21,6 @@ pub mod Rounds
 pub mod Stepping
 pub mod Taking
 pub mod Tellings
-pub mod Together
+pub mod Batches
 pub mod Unasked
 pub mod Unpointed

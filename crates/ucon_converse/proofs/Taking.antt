@@ -18,7 +18,7 @@ use Rattle.ucon_converse.specs.Due.{is_due_after}
 use Rattle.ucon_converse.specs.Holding.{stands}
 use Rattle.ucon_converse.specs.Replies.{GoesOn, Standing}
 use Rattle.ucon_converse.specs.Together.{IsNoneDueBefore, StepEach, answered_so, broken_off, is_answered, replied, unheard_first}
-use Rattle.ucon_converse.proofs.Together.{at, breaks_off, first_of, none_changes, steps_all, steps_append, steps_on}
+use Rattle.ucon_converse.proofs.Batches.{at, breaks_off, first_of, none_changes, steps_all, steps_append, steps_on}
 
 module _ {D : Type 0} (dated : Type 0) (P : PlainPolicy) (text : Bytes) (G : History) (points : List ℕ) (tried : ℕ) (old new : Kept D) (lines : List Entry) (none : old.mark ≡ None)
     (due : IsNoneDueBefore P tried (G ++ old.entries) (length lines)) where
@@ -49,18 +49,18 @@ module _ {D : Type 0} (dated : Type 0) (P : PlainPolicy) (text : Bytes) (G : His
   pub steps_answered : (end : BatchEnd) (ps : List Placed) (taken : ℕ) → is_answered end ps ≡ true → answers ps ≡ serial P H (take (length ps) lines)
       → (end ≢ ends.DiskFault → length ps ≡ taken) → taken ≤ length lines → (end ≢ ends.DiskFault → G ++ new.entries ≡ H ++ changing P H (take taken lines))
       → (end ≢ ends.DiskFault → new.mark ≡ None) → (last : Standing) → GoesOn dated P text (stands G points tried new) last → Steps (answered_so end lines ps taken) last
-  steps_answered ends.All [] taken yes is count within all mark last goes = absurd (cc yes)
-  steps_answered ends.Full [] taken yes is count within all mark last goes = absurd (cc yes)
-  steps_answered (ends.NoMemory e) [] taken yes is count within all mark last goes = absurd (cc yes)
-  steps_answered ends.DiskFault [] taken yes is count within all mark last goes = absurd (cc yes)
-  steps_answered ends.Stopped [] taken yes is count within all mark last goes = absurd (cc yes)
-  steps_answered ends.DiskFault (p ∷ ps) taken yes is count within all mark last goes = absurd (cc yes)
-  steps_answered ends.Stopped (p ∷ ps) taken yes is count within all mark last goes = absurd (cc yes)
-  steps_answered ends.All (p ∷ ps) taken yes is count within all mark last goes =
+  steps_answered ends.All [] taken holds is count within all mark last goes = absurd (cc holds)
+  steps_answered ends.Full [] taken holds is count within all mark last goes = absurd (cc holds)
+  steps_answered (ends.NoMemory e) [] taken holds is count within all mark last goes = absurd (cc holds)
+  steps_answered ends.DiskFault [] taken holds is count within all mark last goes = absurd (cc holds)
+  steps_answered ends.Stopped [] taken holds is count within all mark last goes = absurd (cc holds)
+  steps_answered ends.DiskFault (p ∷ ps) taken holds is count within all mark last goes = absurd (cc holds)
+  steps_answered ends.Stopped (p ∷ ps) taken holds is count within all mark last goes = absurd (cc holds)
+  steps_answered ends.All (p ∷ ps) taken holds is count within all mark last goes =
       some_replied p ps taken is (count (λ bad. cc bad)) within (all (λ bad. cc bad)) (mark (λ bad. cc bad)) last goes
-  steps_answered ends.Full (p ∷ ps) taken yes is count within all mark last goes =
+  steps_answered ends.Full (p ∷ ps) taken holds is count within all mark last goes =
       some_replied p ps taken is (count (λ bad. cc bad)) within (all (λ bad. cc bad)) (mark (λ bad. cc bad)) last goes
-  steps_answered (ends.NoMemory e) (p ∷ ps) taken yes is count within all mark last goes =
+  steps_answered (ends.NoMemory e) (p ∷ ps) taken holds is count within all mark last goes =
       some_replied p ps taken is (count (λ bad. cc bad)) within (all (λ bad. cc bad)) (mark (λ bad. cc bad)) last goes
 
   -- there was no memory for the first line
@@ -103,17 +103,17 @@ module _ {D : Type 0} (dated : Type 0) (P : PlainPolicy) (text : Bytes) (G : His
       → (end ≡ ends.DiskFault → new.entries ≡ old.entries) → (end ≡ ends.DiskFault → new.mark ≡ Some (changing P H (take taken lines)))
       → (end ≡ ends.DiskFault → changing P H (take (length ps) lines) ≡ []) → (end ≡ ends.DiskFault → changing P H (take (length ps + 1) lines) ≢ [])
       → Steps (answered_so end lines ps taken) (stands G points tried new)
-  steps_unanswered ends.All (p ∷ ps) taken no some halted all_taken full is count few within all mark same failed sure first = absurd (cc no)
-  steps_unanswered ends.Full (p ∷ ps) taken no some halted all_taken full is count few within all mark same failed sure first = absurd (cc no)
-  steps_unanswered (ends.NoMemory e) (p ∷ ps) taken no some halted all_taken full is count few within all mark same failed sure first = absurd (cc no)
-  steps_unanswered ends.Stopped ps taken no some halted all_taken full is count few within all mark same failed sure first = absurd (halted refl)
-  steps_unanswered ends.All [] taken no some halted all_taken full is count few within all mark same failed sure first =
+  steps_unanswered ends.All (p ∷ ps) taken fails some halted all_taken full is count few within all mark same failed sure first = absurd (cc fails)
+  steps_unanswered ends.Full (p ∷ ps) taken fails some halted all_taken full is count few within all mark same failed sure first = absurd (cc fails)
+  steps_unanswered (ends.NoMemory e) (p ∷ ps) taken fails some halted all_taken full is count few within all mark same failed sure first = absurd (cc fails)
+  steps_unanswered ends.Stopped ps taken fails some halted all_taken full is count few within all mark same failed sure first = absurd (halted refl)
+  steps_unanswered ends.All [] taken fails some halted all_taken full is count few within all mark same failed sure first =
       let none' : 0 ≡ taken = count (λ bad. cc bad) in let every = all_taken refl in absurd (let bad : ⊥ = omega arith in bad)
-  steps_unanswered ends.Full [] taken no some halted all_taken full is count few within all mark same failed sure first =
+  steps_unanswered ends.Full [] taken fails some halted all_taken full is count few within all mark same failed sure first =
       let none' : 0 ≡ taken = count (λ bad. cc bad) in let one = full refl in absurd (let bad : ⊥ = omega arith in bad)
-  steps_unanswered (ends.NoMemory e) [] taken no some halted all_taken full is count few within all mark same failed sure first =
+  steps_unanswered (ends.NoMemory e) [] taken fails some halted all_taken full is count few within all mark same failed sure first =
       unheard_steps lines refl some taken (count (λ bad. cc bad)) (all (λ bad. cc bad)) (mark (λ bad. cc bad))
-  steps_unanswered ends.DiskFault ps taken no some halted all_taken full is count few within all mark same failed sure first =
+  steps_unanswered ends.DiskFault ps taken fails some halted all_taken full is count few within all mark same failed sure first =
       failed_steps ps taken is (few refl) within (same refl) (failed refl) (sure refl) (first refl)
 
 -- ---- some line is answered
@@ -151,7 +151,7 @@ never_failed (p ∷ ps) is = cc is
 
 -- replies that hold were given where the disk hadn't failed
 pub answered_no_fault : (end : BatchEnd) (ps : List Placed) → is_answered end ps ≡ true → end ≡ ends.DiskFault → ⊥
-answered_no_fault end ps yes is = never_failed ps (subst (λ (e : BatchEnd). is_answered e ps ≡ true) is yes)
+answered_no_fault end ps holds is = never_failed ps (subst (λ (e : BatchEnd). is_answered e ps ≡ true) is holds)
 
 pub never_stopped : {A : Type 0} (o : Option A) → o ≡ None → IsSome o → ⊥
 never_stopped None none some = let no : false ≡ true = some in cc no

@@ -56,14 +56,14 @@ steps_unpointed P T (e ∷ lines) few =
     by : (b : Bool) → Each (λ p. is_point p ≡ false) (payloads_after P (after P T e.caller e.command) (changing_after P (after P T e.caller e.command) lines))
         → Each (λ p. is_point p ≡ false) (payloads_after P T (changing_after P T lines))
         → Each (λ p. is_point p ≡ false) (payloads_after P T (if b then e ∷ changing_after P (after P T e.caller e.command) lines else changing_after P T lines))
-    by true yes no = (told_unpointed P T e few.0, yes)
-    by false yes no = no
+    by true with_it without = (told_unpointed P T e few.0, with_it)
+    by false with_it without = without
 
 none_behind : (added : List Bytes) → Each (λ p. is_point p ≡ false) added → (k : ℕ) → places_behind k added ≡ []
-none_behind [] no k = refl
-none_behind (p ∷ added) no k = ap (λ (b : Bool). if b then k ∷ places_behind k added else places_behind (k + 1) added) no.0 ∙ none_behind added no.1 (k + 1)
+none_behind [] steps k = refl
+none_behind (p ∷ added) steps k = ap (λ (b : Bool). if b then k ∷ places_behind k added else places_behind (k + 1) added) steps.0 ∙ none_behind added steps.1 (k + 1)
 
-module _ (added : List Bytes) (no : Each (λ p. is_point p ≡ false) added) where
+module _ (added : List Bytes) (steps : Each (λ p. is_point p ≡ false) added) where
   same_here : (k : ℕ) (q : Bytes) (ps : List Bytes) (b : Bool) → ((n : ℕ) → places_behind n (ps ++ added) ≡ places_behind n ps)
       → (if b then k ∷ places_behind k (ps ++ added) else places_behind (k + 1) (ps ++ added))
       ≡ (if b then k ∷ places_behind k ps else places_behind (k + 1) ps)
@@ -71,7 +71,7 @@ module _ (added : List Bytes) (no : Each (λ p. is_point p ≡ false) added) whe
   same_here k q ps false next = next (k + 1)
 
   same_behind : (ps : List Bytes) (k : ℕ) → places_behind k (ps ++ added) ≡ places_behind k ps
-  same_behind [] k = none_behind added no k
+  same_behind [] k = none_behind added steps k
   same_behind (q ∷ ps) k = same_here k q ps (is_point q) (same_behind ps)
 
   none_in : (ps : List Bytes) → Each (λ p. is_point p ≡ false) ps → places_in ps ≡ []
@@ -79,7 +79,7 @@ module _ (added : List Bytes) (no : Each (λ p. is_point p ≡ false) added) whe
   none_in (text ∷ ps) each = none_behind ps each.1 0
 
   same_in : (ps : List Bytes) → places_in (ps ++ added) ≡ places_in ps
-  same_in [] = none_in added no
+  same_in [] = none_in added steps
   same_in (text ∷ ps) = same_behind ps 0
 
   pub places_unpointed : (file c : Bytes) → AddsTogether added file c → point_places c ≡ point_places file

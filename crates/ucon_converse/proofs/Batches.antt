@@ -160,33 +160,33 @@ module _ (old : Type 0) (P : PlainPolicy) (text : Bytes) (points : List ℕ) (tr
       → StepEach old P text (at H (Some doubt)) (all_stopped lines) (at H (Some (doubt ++ changing P (H ++ doubt) lines)))
   stops_each H [] doubt some = ap (λ (d : History). at H (Some d)) (sym (append-nil doubt))
   stops_each H (e ∷ lines) doubt some = by (changes (said P (H ++ doubt) e.caller e.command)) refl
-  where
-    by : (b : Bool) → changes (said P (H ++ doubt) e.caller e.command) ≡ b
-        → StepEach old P text (at H (Some doubt)) (all_stopped (e ∷ lines))
-        (at H (Some (doubt ++ (if changes (said P (H ++ doubt) e.caller e.command) then e ∷ changing P ((H ++ doubt) ++ e ∷ []) lines else changing P (H ++ doubt) lines))))
-    by true is =
-        let next = stops_each H lines (doubt ++ e ∷ []) (some_longer doubt e) in
-        let behind : (doubt ++ e ∷ []) ++ changing P (H ++ (doubt ++ e ∷ [])) lines ≡ doubt ++ (e ∷ changing P ((H ++ doubt) ++ e ∷ []) lines) =
-        append_assoc doubt (e ∷ []) (changing P (H ++ (doubt ++ e ∷ [])) lines)
-        ∙ ap (λ (K : History). doubt ++ (e ∷ changing P K lines)) (sym (append_assoc H doubt (e ∷ []))) in
-        let chosen : doubt ++ (e ∷ changing P ((H ++ doubt) ++ e ∷ []) lines) ≡ doubt ++ (if changes (said P (H ++ doubt) e.caller e.command) then e ∷ changing P ((H ++ doubt) ++ e ∷ []) lines else changing P (H ++ doubt) lines) =
-        ap (λ (b : Bool). doubt ++ (if b then e ∷ changing P ((H ++ doubt) ++ e ∷ []) lines else changing P (H ++ doubt) lines)) (sym is) in (
-          at H (Some (doubt ++ e ∷ [])),
-          record {
-            between = at H (Some (doubt ++ e ∷ []));
-            step = inr (refl, refl, inr (record { doubt = doubt; failed = refl; some = some; would_change = is; joined = refl }));
-            rests = refl;
-          },
-          subst (λ (d : History). StepEach old P text (at H (Some (doubt ++ e ∷ []))) (all_stopped lines) (at H (Some d))) (behind ∙ chosen) next,
-        )
-    by false is =
-        let next = stops_each H lines doubt some in
-        let chosen : doubt ++ changing P (H ++ doubt) lines ≡ doubt ++ (if changes (said P (H ++ doubt) e.caller e.command) then e ∷ changing P ((H ++ doubt) ++ e ∷ []) lines else changing P (H ++ doubt) lines) =
-        ap (λ (b : Bool). doubt ++ (if b then e ∷ changing P ((H ++ doubt) ++ e ∷ []) lines else changing P (H ++ doubt) lines)) (sym is) in (
-          at H (Some doubt),
-          record { between = at H (Some doubt); step = inr (refl, refl, inl refl); rests = refl },
-          subst (λ (d : History). StepEach old P text (at H (Some doubt)) (all_stopped lines) (at H (Some d))) chosen next,
-        )
+    where
+      by : (b : Bool) → changes (said P (H ++ doubt) e.caller e.command) ≡ b
+          → StepEach old P text (at H (Some doubt)) (all_stopped (e ∷ lines))
+          (at H (Some (doubt ++ (if changes (said P (H ++ doubt) e.caller e.command) then e ∷ changing P ((H ++ doubt) ++ e ∷ []) lines else changing P (H ++ doubt) lines))))
+      by true is =
+          let next = stops_each H lines (doubt ++ e ∷ []) (some_longer doubt e) in
+          let behind : (doubt ++ e ∷ []) ++ changing P (H ++ (doubt ++ e ∷ [])) lines ≡ doubt ++ (e ∷ changing P ((H ++ doubt) ++ e ∷ []) lines) =
+          append_assoc doubt (e ∷ []) (changing P (H ++ (doubt ++ e ∷ [])) lines)
+          ∙ ap (λ (K : History). doubt ++ (e ∷ changing P K lines)) (sym (append_assoc H doubt (e ∷ []))) in
+          let chosen : doubt ++ (e ∷ changing P ((H ++ doubt) ++ e ∷ []) lines) ≡ doubt ++ (if changes (said P (H ++ doubt) e.caller e.command) then e ∷ changing P ((H ++ doubt) ++ e ∷ []) lines else changing P (H ++ doubt) lines) =
+          ap (λ (b : Bool). doubt ++ (if b then e ∷ changing P ((H ++ doubt) ++ e ∷ []) lines else changing P (H ++ doubt) lines)) (sym is) in (
+            at H (Some (doubt ++ e ∷ [])),
+            record {
+              between = at H (Some (doubt ++ e ∷ []));
+              step = inr (refl, refl, inr (record { doubt = doubt; failed = refl; some = some; would_change = is; joined = refl }));
+              rests = refl;
+            },
+            subst (λ (d : History). StepEach old P text (at H (Some (doubt ++ e ∷ []))) (all_stopped lines) (at H (Some d))) (behind ∙ chosen) next,
+          )
+      by false is =
+          let next = stops_each H lines doubt some in
+          let chosen : doubt ++ changing P (H ++ doubt) lines ≡ doubt ++ (if changes (said P (H ++ doubt) e.caller e.command) then e ∷ changing P ((H ++ doubt) ++ e ∷ []) lines else changing P (H ++ doubt) lines) =
+          ap (λ (b : Bool). doubt ++ (if b then e ∷ changing P ((H ++ doubt) ++ e ∷ []) lines else changing P (H ++ doubt) lines)) (sym is) in (
+            at H (Some doubt),
+            record { between = at H (Some doubt); step = inr (refl, refl, inl refl); rests = refl },
+            subst (λ (d : History). StepEach old P text (at H (Some doubt)) (all_stopped lines) (at H (Some d))) chosen next,
+          )
 
   -- lines that were to be written together met a disk fault: the first of them would have changed something
   pub breaks_off : (H : History) (e : Entry) (lines : List Entry) → changes (said P H e.caller e.command) ≡ true
