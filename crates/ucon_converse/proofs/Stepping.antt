@@ -1,6 +1,6 @@
 -- What a store's step says, by its answer; and that its moment doesn't fall.
 use Rattle.std.proofs.Common.{◌≡◌, ◌↔◌, true, false, Result, Ok, Err, ℕ, ◌≤◌, List, [], ◌∷◌, ◌++◌, length, refl, sym, ap, subst, ◌∙◌, inl, inr, arith}
-use Rattle.std.specs.Prelude.{is_ok, OnErr, IsSome, IsOk, IfOk, IsErrOf, Option, Some, None, if◌then◌else◌}
+use Rattle.std.specs.Prelude.{is_ok, OnErr, OnOk, IsSome, IsOk, IfOk, IsErrOf, Option, Some, None, if◌then◌else◌}
 use Rattle.ucon_base.specs.Memory.{out_of_memory}
 use Rattle.ucon_disk.specs.Seen.{DiskSeen}
 use Rattle.ucon_model.specs.declared.command.Entry.{Entry}
@@ -121,6 +121,14 @@ rests_err old P text (Ok p) s bad = absurd (cc bad)
 rests_err old P text (Err (faults.NoMemory e)) s bad = refl
 rests_err old P text (Err faults.DiskFault) s bad = refl
 rests_err old P text (Err faults.Stopped) s bad = refl
+
+pub if_ok : {T E : Type 0} (r : Result T E) (So : T → Type 0) (A : Type 0) → ((v : T) → So v → A) → IfOk r So → OnOk r A
+if_ok (Ok v) So A then is = then v is
+if_ok (Err e) So A then is = tt
+
+pub on_ok : {T E : Type 0} (r : Result T E) (A : Type 0) → is_ok r ≡ true → OnOk r A → A
+on_ok (Ok v) A ok a = a
+on_ok (Err e) A ok a = absurd (cc ok)
 
 pub always_err : {T E : Type 0} (r : Result T E) (A : Type 0) → A → OnErr r A
 always_err (Ok v) A a = tt

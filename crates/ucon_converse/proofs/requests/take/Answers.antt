@@ -1,14 +1,17 @@
 use Rattle.std.proofs.Common.{rules, ◌≡◌, ◌∷◌, [], Ok, ℕ, List, refl, sym, subst, ◌∙◌}
-use Rattle.std.specs.Prelude.{None}
+use Rattle.std.specs.Prelude.{None, Some}
 use Rattle.ucon_model.specs.declared.command.Command.{Command}
 use Rattle.ucon_model.specs.declared.command.Entry.{Entry}
 use Rattle.ucon_syntax.specs.Policies.{accepted}
-use Rattle.ucon_store.specs.Steps.{step_payload}
+use Rattle.ucon_model.specs.Action.{Trace}
+use Rattle.ucon_model.specs.Plain.{PlainPolicy}
+use Rattle.ucon_store.specs.Starts.{IsStart}
+use Rattle.ucon_store.specs.Steps.{IsPlacedBehind, step_payload}
 use Rattle.ucon_converse.specs.Holding.{stands}
 use Rattle.ucon_converse.specs.Replies.{IsStep}
 use Rattle.ucon_converse.specs.Said.{answer_said}
 use Rattle.ucon_converse.proofs.Checkpoints.{keeps_nothing, keeps_steps}
-use Rattle.ucon_converse.proofs.Stepping.{store_steps}
+use Rattle.ucon_converse.proofs.Stepping.{if_ok, store_steps}
 use Rattle.ucon_converse.proofs.Unpointed.{places_unpointed, step_unpointed}
 use Rattle.ucon_converse.proofs.requests.take.Goals as goal
 
@@ -23,6 +26,13 @@ returns-clause-step g c = λ P G points tried command accepts front says.
     (record { line = record { caller = c.args.request.now.caller; command = k }; answer = answer_said c.step.result })) same
     (store_steps g.D.Disk.seen (accepted was.policy) P accepts was now G points tried front
     (record { caller = c.args.request.now.caller; command = c.in_ok-command.command }) c.step.result s.stopped s.placed s.no_memory s.still s.failed)
+
+pub returns-clause-unmarked : goal.returns-clause-unmarked
+returns-clause-unmarked g c =
+    let led = c.requires.led in
+    if_ok c.step.result (λ p. (P : PlainPolicy) (T : Trace) → accepted c.args.store.now.policy ≡ Some P → IsStart P c.args.store.now.point c.args.store.now.before T
+    → IsPlacedBehind P T c.args.store.now c.step.new.self (record { caller = c.args.request.now.caller; command = c.in_ok-command.command }) p)
+    (c.step.new.self.mark ≡ None) (λ p placed. (placed led.P led.begun led.accepts led.starts).unmarked) c.step.ensures.placed_behind
 
 pub returns-clause-keeps : goal.returns-clause-keeps
 returns-clause-keeps g c = λ made tried.

@@ -1,5 +1,5 @@
 use Rattle.std.proofs.Common.{rules, ◌≡◌, true, false, ◌++◌, List, ℕ, sym, ap, subst, ◌∙◌}
-use Rattle.std.specs.Prelude.{is_ok}
+use Rattle.std.specs.Prelude.{None, is_ok}
 use Rattle.ucon_model.specs.Plain.{Bytes}
 use Rattle.ucon_syntax.specs.Policies.{accepted}
 use Rattle.ucon_converse.specs.Answering.{answering}
@@ -9,12 +9,17 @@ use Rattle.ucon_converse.specs.KeeperLaws.{keeps_again}
 use Rattle.ucon_converse.specs.Replies.{GoesOn}
 use Rattle.ucon_converse.proofs.Conversing.{front_same}
 use Rattle.ucon_converse.proofs.Dated.{dated_before, goes_as}
-use Rattle.ucon_converse.proofs.Stepping.{led_later, rests_err, rests_ok}
+use Rattle.ucon_converse.proofs.Stepping.{led_later, on_ok, rests_err, rests_ok}
 use Rattle.ucon_converse.proofs.requests.take_and_rest.Goals as goal
 
-pub rest-requires : goal.rest-requires
-rest-requires g c =
+pub rest-requires-clause-led : goal.rest-requires-clause-led
+rest-requires-clause-led g c =
     led_later g.D.Disk.seen c.args.store.now c.take-said.new.store c.requires.led (c.take-said.ensures.keeps c.args.points.now.made c.args.points.now.tried).stays
+
+pub rest-requires-clause-unmarked : goal.rest-requires-clause-unmarked
+rest-requires-clause-unmarked g c =
+    let ok : is_ok c.take-said.result ≡ true = search rules in
+    on_ok c.take-said.result (c.take-said.new.store.mark ≡ None) ok c.take-said.ensures.unmarked
 
 pub returns-then-is_ok-clause-step : goal.returns-then-is_ok-clause-step
 returns-then-is_ok-clause-step g c = λ P G places command accepts front says.
