@@ -1,5 +1,5 @@
 -- Requests that are answered together, one by one.
-use Rattle.std.proofs.Common.{◌≡◌, inl, inr, ℕ, ◌+◌, ◌≤◌, ◌<◌, Bool, true, false, List, [], ◌∷◌, ◌++◌, length, take, drop, append_assoc, length-append, refl, sym, ap, subst, ◌∙◌, arith}
+use Rattle.std.proofs.Common.{zero, suc, ◌≡◌, inl, inr, ℕ, ◌+◌, ◌≤◌, ◌<◌, Bool, true, false, List, [], ◌∷◌, ◌++◌, length, take, drop, append_assoc, length-append, refl, sym, ap, subst, ◌∙◌, arith}
 use Rattle.std.proofs.lemmas.List.{append-nil}
 use Rattle.std.specs.Prelude.{◌≢◌, Option, Some, None, IsSome, if◌then◌else◌}
 use Rattle.ucon_base.specs.Elements.{Each}
@@ -53,26 +53,30 @@ pub first_of : (P : PlainPolicy) (H : History) (n taken : ℕ) (lines : List Ent
     → changing P H (take (n + 1) lines) ≢ []
     → (e : Entry) × (others : List Entry) × (drop n (take taken lines) ≡ e ∷ others) × (changes (said P H e.caller e.command) ≡ true)
     × (changing P H (take taken lines) ≡ e ∷ changing P (H ++ e ∷ []) others)
-first_of P H n 0 lines lt le none some = absurd (let no : ⊥ = omega arith in no)
+first_of P H n zero lines lt le none some = absurd (let no : ⊥ = omega arith in no)
 first_of P H n (suc taken) [] lt le none some = absurd (let no : ⊥ = omega arith in no)
-first_of P H 0 (suc taken) (e ∷ lines) lt le none some = by (changes (said P H e.caller e.command)) refl
+first_of P H zero (suc taken) (e ∷ lines) lt le none some = by (changes (said P H e.caller e.command)) refl
   where
     by : (b : Bool) → changes (said P H e.caller e.command) ≡ b
         → (e' : Entry) × (others : List Entry) × (e ∷ take taken lines ≡ e' ∷ others) × (changes (said P H e'.caller e'.command) ≡ true)
         × (changing P H (e ∷ take taken lines) ≡ e' ∷ changing P (H ++ e' ∷ []) others)
     by true is = (e, take taken lines, refl, is, ap (λ (b : Bool). if b then e ∷ changing P (H ++ e ∷ []) (take taken lines) else changing P H (take taken lines)) is)
     by false is = absurd (some (ap (λ (b : Bool). if b then e ∷ [] else []) is))
-first_of P H (suc n) (suc taken) (x ∷ lines) lt le none some = by (changes (said P H x.caller x.command)) refl none some
+first_of P H (suc n) (suc taken) (x ∷ lines) lt le none some =
+    by (λ none' some'. first_of P H n taken lines (omega arith) (omega arith) none' some') (changes (said P H x.caller x.command)) refl none some
   where
-    by : (b : Bool) → changes (said P H x.caller x.command) ≡ b
+    by : (changing P H (take n lines) ≡ [] → changing P H (take (n + 1) lines) ≢ []
+        → (e : Entry) × (others : List Entry) × (drop n (take taken lines) ≡ e ∷ others) × (changes (said P H e.caller e.command) ≡ true)
+        × (changing P H (take taken lines) ≡ e ∷ changing P (H ++ e ∷ []) others))
+        → (b : Bool) → changes (said P H x.caller x.command) ≡ b
         → (if b then x ∷ changing P (H ++ x ∷ []) (take n lines) else changing P H (take n lines)) ≡ []
         → (if b then x ∷ changing P (H ++ x ∷ []) (take (n + 1) lines) else changing P H (take (n + 1) lines)) ≢ []
         → (e : Entry) × (others : List Entry) × (drop n (take taken lines) ≡ e ∷ others) × (changes (said P H e.caller e.command) ≡ true)
         × ((if changes (said P H x.caller x.command) then x ∷ changing P (H ++ x ∷ []) (take taken lines) else changing P H (take taken lines))
         ≡ e ∷ changing P (H ++ e ∷ []) others)
-    by true is none' some' = absurd (cc none')
-    by false is none' some' =
-        let f = first_of P H n taken lines (omega arith) (omega arith) none' some' in
+    by next true is none' some' = absurd (cc none')
+    by next false is none' some' =
+        let f = next none' some' in
         (f.0, f.1, f.2, f.3, ap (λ (b : Bool). if b then x ∷ changing P (H ++ x ∷ []) (take taken lines) else changing P H (take taken lines)) is ∙ f.4)
 
 module _ (old : Type 0) (P : PlainPolicy) (text : Bytes) (points : List ℕ) (tried : ℕ) where
@@ -98,7 +102,7 @@ module _ (old : Type 0) (P : PlainPolicy) (text : Bytes) (points : List ℕ) (tr
       )
 
   not_yet : (s : Standing) → is_due_after P s.tried s.history ≡ false → GoesOn old P text s s
-  not_yet s no = record { due = λ yes. absurd (let bad : false ≡ true = sym no ∙ yes in cc bad); not_due = λ _. refl }
+  not_yet s calm = record { due = λ is. absurd (let bad : false ≡ true = sym calm ∙ is in cc bad); not_due = λ _. refl }
 
   -- requests had the next replies; a checkpoint is due behind the last at most
   pub steps_on : (H : History) (lines : List Entry) (p : Placed) (ps : List Placed) → answers (p ∷ ps) ≡ serial P H (take (length (p ∷ ps)) lines)
@@ -107,7 +111,7 @@ module _ (old : Type 0) (P : PlainPolicy) (text : Bytes) (points : List ℕ) (tr
       → StepEach old P text (at H None) (replied lines (p ∷ ps)) last
   steps_on H [] p ps is due last goes = absurd (cc is)
   steps_on H (e ∷ lines) p [] is due last goes =
-      let both : (p.place, reply_of p.reply) ≡ (length (grown P H e), said P H e.caller e.command) = cc is in
+      let both : ◌≡◌ {A = ℕ × PlainReply} (p.place, reply_of p.reply) (length (grown P H e), said P H e.caller e.command) = cc is in
       let b = changes (said P H e.caller e.command) in
       let end : grown P H e ≡ H ++ changing P H (e ∷ []) = grown_if b H e in (
         last,
@@ -119,7 +123,7 @@ module _ (old : Type 0) (P : PlainPolicy) (text : Bytes) (points : List ℕ) (tr
         refl,
       )
   steps_on H (e ∷ lines) p (q ∷ ps) is due last goes =
-      let both : (p.place, reply_of p.reply) ≡ (length (grown P H e), said P H e.caller e.command) = cc is in
+      let both : ◌≡◌ {A = ℕ × PlainReply} (p.place, reply_of p.reply) (length (grown P H e), said P H e.caller e.command) = cc is in
       let others : answers (q ∷ ps) ≡ serial P (grown P H e) (take (length (q ∷ ps)) lines) = cc is in
       let b = changes (said P H e.caller e.command) in
       let grows : grown P H e ≡ H ++ one_if b e = grown_if b H e in
@@ -159,13 +163,14 @@ module _ (old : Type 0) (P : PlainPolicy) (text : Bytes) (points : List ℕ) (tr
   stops_each : (H : History) (lines : List Entry) (doubt : History) → doubt ≢ []
       → StepEach old P text (at H (Some doubt)) (all_stopped lines) (at H (Some (doubt ++ changing P (H ++ doubt) lines)))
   stops_each H [] doubt some = ap (λ (d : History). at H (Some d)) (sym (append-nil doubt))
-  stops_each H (e ∷ lines) doubt some = by (changes (said P (H ++ doubt) e.caller e.command)) refl
+  stops_each H (e ∷ lines) doubt some = by (λ d more. stops_each H lines d more) (changes (said P (H ++ doubt) e.caller e.command)) refl
     where
-      by : (b : Bool) → changes (said P (H ++ doubt) e.caller e.command) ≡ b
+      by : ((d : History) → d ≢ [] → StepEach old P text (at H (Some d)) (all_stopped lines) (at H (Some (d ++ changing P (H ++ d) lines))))
+          → (b : Bool) → changes (said P (H ++ doubt) e.caller e.command) ≡ b
           → StepEach old P text (at H (Some doubt)) (all_stopped (e ∷ lines))
           (at H (Some (doubt ++ (if changes (said P (H ++ doubt) e.caller e.command) then e ∷ changing P ((H ++ doubt) ++ e ∷ []) lines else changing P (H ++ doubt) lines))))
-      by true is =
-          let next = stops_each H lines (doubt ++ e ∷ []) (some_longer doubt e) in
+      by others true is =
+          let next = others (doubt ++ e ∷ []) (some_longer doubt e) in
           let behind : (doubt ++ e ∷ []) ++ changing P (H ++ (doubt ++ e ∷ [])) lines ≡ doubt ++ (e ∷ changing P ((H ++ doubt) ++ e ∷ []) lines) =
           append_assoc doubt (e ∷ []) (changing P (H ++ (doubt ++ e ∷ [])) lines)
           ∙ ap (λ (K : History). doubt ++ (e ∷ changing P K lines)) (sym (append_assoc H doubt (e ∷ []))) in
@@ -179,8 +184,8 @@ module _ (old : Type 0) (P : PlainPolicy) (text : Bytes) (points : List ℕ) (tr
             },
             subst (λ (d : History). StepEach old P text (at H (Some (doubt ++ e ∷ []))) (all_stopped lines) (at H (Some d))) (behind ∙ chosen) next,
           )
-      by false is =
-          let next = stops_each H lines doubt some in
+      by others false is =
+          let next = others doubt some in
           let chosen : doubt ++ changing P (H ++ doubt) lines ≡ doubt ++ (if changes (said P (H ++ doubt) e.caller e.command) then e ∷ changing P ((H ++ doubt) ++ e ∷ []) lines else changing P (H ++ doubt) lines) =
           ap (λ (b : Bool). doubt ++ (if b then e ∷ changing P ((H ++ doubt) ++ e ∷ []) lines else changing P (H ++ doubt) lines)) (sym is) in (
             at H (Some doubt),

@@ -1,5 +1,5 @@
 -- Replies that were given together, behind each history that leads to where a store begins.
-use Rattle.std.proofs.Common.{◌≡◌, ◌⊎◌, inl, inr, ⊎_elim, ℕ, ◌+◌, ◌≤◌, ◌<◌, List, [], ◌∷◌, ◌++◌, length, take, drop, append_assoc, length-append, refl, sym, ap, subst, ◌∙◌, arith}
+use Rattle.std.proofs.Common.{zero, suc, ◌≡◌, ◌⊎◌, inl, inr, ⊎_elim, ℕ, ◌+◌, ◌≤◌, ◌<◌, List, [], ◌∷◌, ◌++◌, length, take, drop, append_assoc, length-append, refl, sym, ap, subst, ◌∙◌, arith}
 use Rattle.std.proofs.Math.Seq.{drop-append_seam}
 use Rattle.std.proofs.lemmas.List.{append-nil, drop-drop}
 use Rattle.std.specs.Prelude.{Some, ⊤}
@@ -43,23 +43,23 @@ AreOf (t ∷ told) [] = ⊥
 AreOf (t ∷ told) (e ∷ es) = (t.line ≡ e) × AreOf told es
 
 replied_of : (es : List Entry) (ps : List Placed) → AreOf (replied es ps) es
-replied_of [] ps = tt
-replied_of (e ∷ es) [] = tt
+replied_of es [] = tt
+replied_of [] (p ∷ ps) = tt
 replied_of (e ∷ es) (p ∷ ps) = (refl, replied_of es ps)
 
 stopped_of : (n : ℕ) (es : List Entry) → AreOf (all_stopped (take n es)) es
-stopped_of 0 es = tt
+stopped_of zero es = tt
 stopped_of (suc n) [] = tt
 stopped_of (suc n) (e ∷ es) = (refl, stopped_of n es)
 
 failed_of : (taken : ℕ) (es : List Entry) (ps : List Placed) → length ps ≤ taken → AreOf (replied es ps ++ broken_off (drop (length ps) (take taken es))) es
-failed_of 0 [] [] le = tt
+failed_of zero [] [] le = tt
 failed_of (suc taken) [] [] le = tt
-failed_of 0 [] (p ∷ ps) le = tt
+failed_of zero [] (p ∷ ps) le = tt
 failed_of (suc taken) [] (p ∷ ps) le = tt
-failed_of 0 (e ∷ es) [] le = tt
+failed_of zero (e ∷ es) [] le = tt
 failed_of (suc taken) (e ∷ es) [] le = (refl, stopped_of taken es)
-failed_of 0 (e ∷ es) (p ∷ ps) le = absurd (let no : ⊥ = omega arith in no)
+failed_of zero (e ∷ es) (p ∷ ps) le = absurd (let no : ⊥ = omega arith in no)
 failed_of (suc taken) (e ∷ es) (p ∷ ps) le = (refl, failed_of taken es ps (omega arith))
 
 unheard_of : (es : List Entry) → AreOf (unheard_first es) es

@@ -1,10 +1,10 @@
 -- Lines in front of what came.
-use Rattle.std.proofs.Common.{◌≡◌, ℕ, ◌+◌, ◌≤◌, ◌<◌, true, List, [], ◌∷◌, ◌++◌, length, take, drop, min, append_assoc, refl, sym, ap, subst, ◌∙◌, arith, take-append-drop, length-append}
+use Rattle.std.proofs.Common.{◌≡◌, ℕ, ◌+◌, ◌≤◌, ◌<◌, true, false, List, [], ◌∷◌, ◌++◌, length, take, drop, min, append_assoc, refl, sym, ap, subst, ◌∙◌, arith, take-append-drop, length-append}
 use Rattle.std.proofs.Math.Seq.{take-append_seam}
 use Rattle.std.proofs.lemmas.List.{append-nil, length-take, take-take}
-use Rattle.std.specs.Prelude.{◌==◌, Some, position, nat_lt}
+use Rattle.std.specs.Prelude.{◌==◌, Some, None, position, nat_lt}
 use Rattle.ucon_flow.specs.Lines.{HasNewline, IsBare, IsLine, first_line, newline}
-use Rattle.ucon_flow.proofs.Lines.{found, has_line, line_len}
+use Rattle.ucon_flow.proofs.Lines.{found, has_line, line_len, not_found}
 use Rattle.ucon_model.specs.Plain.{Bytes}
 use Rattle.ucon_tell.specs.Told.{AreReplied, IsReplied, Told}
 use Rattle.ucon_converse.specs.Fronts.{StandsInFront}
@@ -55,3 +55,14 @@ one_replied limit so line came old new stands is = record {
   len = sym (length-append line (10 ∷ []));
   text = is.3 ∙ ap (λ (l : Bytes). old ++ l) (sym (append-nil is.0));
 }
+
+-- where the first newline stands too far behind, no line that fits stands in front
+pub too_far : (limit at : ℕ) (came : Bytes) → Some at ≡ position (λ b. b == 10) came → limit ≤ at → HasNewline came → newline came < limit → ⊥
+too_far limit at came is far whole fits = let n = at_newline came at is in let same : newline came ≡ at = n.1 in omega arith
+
+-- and none, where there is no newline
+pub none_there : (limit : ℕ) (came : Bytes) → None ≡ position (λ b. b == 10) came → HasNewline came → newline came < limit → ⊥
+none_there limit came is whole fits =
+    let n = not_found came is in
+    let lost : false ≡ nat_lt (newline came) (length came) = n.1 in
+    let no : ⊥ = grind arith in no

@@ -319,7 +319,7 @@ module _ (reads : PolicyReading) (P : PlainPolicy) (text : Bytes) (old : Type 0)
               mark =
                   let g = rest.is_so.doubts (a.told.line ∷ []) (same ∙ mark_is) in
                   inl (
-                    inl (is.0.failed, g.0, g.1, subst (λ (H : History). AreInDoubt P (H ++ a.told.line ∷ []) g.0 rest.told) (sym rest.is_so.history) g.2),
+                    inl (is.0.failed, (g.0, g.1, subst (λ (H : History). AreInDoubt P (H ++ a.told.line ∷ []) g.0 rest.told) (sym rest.is_so.history) g.2)),
                     refl,
                   );
             };

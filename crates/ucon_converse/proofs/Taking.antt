@@ -1,5 +1,5 @@
 -- What a store's batch says, line by line.
-use Rattle.std.proofs.Common.{◌≡◌, ◌≢◌, ◌↔◌, inl, inr, ℕ, ◌+◌, ◌≤◌, ◌<◌, Bool, true, false, List, [], ◌∷◌, ◌++◌, length, take, drop, append_assoc, refl, sym, ap, subst, ◌∙◌, arith}
+use Rattle.std.proofs.Common.{zero, suc, ◌≡◌, ◌≢◌, ◌↔◌, inl, inr, ℕ, ◌+◌, ◌≤◌, ◌<◌, Bool, true, false, List, [], ◌∷◌, ◌++◌, length, take, drop, append_assoc, refl, sym, ap, subst, ◌∙◌, arith}
 use Rattle.std.proofs.lemmas.List.{append-nil, length-take}
 use Rattle.std.specs.Prelude.{Option, Some, None, IsSome}
 use Rattle.ucon_model.specs.declared.command.Entry.{Entry}
@@ -18,7 +18,7 @@ use Rattle.ucon_converse.specs.Due.{is_due_after}
 use Rattle.ucon_converse.specs.Holding.{stands}
 use Rattle.ucon_converse.specs.Replies.{GoesOn, Standing}
 use Rattle.ucon_converse.specs.Together.{IsNoneDueBefore, StepEach, answered_so, broken_off, is_answered, replied, unheard_first}
-use Rattle.ucon_converse.proofs.Batches.{at, breaks_off, first_of, none_changes, steps_all, steps_append, steps_on}
+use Rattle.ucon_converse.proofs.Batches.{at, breaks_off, first_of, steps_all, steps_append, steps_on}
 
 module _ {D : Type 0} (dated : Type 0) (P : PlainPolicy) (text : Bytes) (G : History) (points : List ℕ) (tried : ℕ) (old new : Kept D) (lines : List Entry) (none : old.mark ≡ None)
     (due : IsNoneDueBefore P tried (G ++ old.entries) (length lines)) where
@@ -130,7 +130,7 @@ some_unheard (e ∷ lines) some = omega arith
 some_failed : (lines : List Entry) (ps : List Placed) (taken : ℕ) → length ps < taken → taken ≤ length lines → 0 < length (replied lines ps ++ broken_off (drop (length ps) (take taken lines)))
 some_failed [] ps taken few within = absurd (let no : ⊥ = omega arith in no)
 some_failed (e ∷ lines) (p ∷ ps) taken few within = omega arith
-some_failed (e ∷ lines) [] 0 few within = absurd (let no : ⊥ = omega arith in no)
+some_failed (e ∷ lines) [] zero few within = absurd (let no : ⊥ = omega arith in no)
 some_failed (e ∷ lines) [] (suc taken) few within = omega arith
 
 pub some_answered : (end : BatchEnd) (lines : List Entry) (ps : List Placed) (taken : ℕ) → 0 < length lines → (end ≡ ends.Stopped → ⊥) → (end ≡ ends.All → taken ≡ length lines)

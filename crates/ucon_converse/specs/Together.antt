@@ -37,8 +37,8 @@ AreInFront limit (e ∷ es) came rest = (len : ℕ) × IsInFront limit e len cam
 
 -- the first lines with their replies
 abbrev pub replied : List Entry → List Placed → List Answered
-replied [] placed' = []
-replied (e ∷ lines) [] = []
+replied lines [] = []
+replied [] (p ∷ placed') = []
 replied (e ∷ lines) (p ∷ placed') = record { line = e; answer = placed p.place (reply_of p.reply) } ∷ replied lines placed'
 
 -- the disk had failed before these

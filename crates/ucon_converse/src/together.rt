@@ -13,7 +13,7 @@ ghost use Rattle.ucon_converse.specs.Holding.{standing};
 ghost use Rattle.ucon_converse.specs.Keeping.{IsDated, IsLed, Keeps};
 ghost use Rattle.ucon_converse.specs.Together.{AreInFront, ArePut, IsInFront, IsNoneDueBefore, StepEach, all_stopped, answered_in, broken_off, is_answered, replied};
 
-use crate::fronts::line_in_front;
+use crate::fronts::{first_newline, line_in_front};
 use crate::lines::{put_answer, put_placed};
 use crate::pointing::{rest, steps_until_due};
 use crate::points::Points;
@@ -230,7 +230,7 @@ pub(crate) fn len_of_lines(came: &[u8], count: usize) -> usize
 {
     let mut at = 0;
     for _line in 0..count {
-        match came[at..].iter().position(|byte| *byte == b'\n') {
+        match first_newline(&came[at..]) {
             Some(len) => at += len + 1,
             None => break,
         }

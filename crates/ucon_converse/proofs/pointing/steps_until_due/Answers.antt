@@ -12,7 +12,7 @@ returns g c = λ P G accepts front es few.
     let s = c.args.store.now in
     let H : History = G ++ s.entries in
     let size : c.size_of.result ≡ size_of (held_after P (trace P H)) =
-    c.size_of.ensures P (trace P H) (follows_whole P s G (shown c.state.result.now) (c.state.ensures.follows c.requires P (trace P G) accepts front.starts)) in
+    c.size_of.ensures P (trace P H) (follows_whole P s G (shown c.state.result.now) (c.state.ensures.follows c.requires.unmarked P (trace P G) accepts front.starts)) in
     let count : c.place.result ≡ length H = c.place.ensures.place ∙ whole_count P s G front in
-    let within : c.result ≤ max 4096 (c.size_of.result + 1) - (c.place.result - c.args.tried) = grind arith in
-    due_later P c.args.tried c.result c.place.result c.size_of.result H es count size few within
+    let within : c.saturating_sub.result ≤ max 4096 (c.size_of.result + 1) - (c.place.result - c.args.tried) = grind arith in
+    due_later P c.args.tried c.saturating_sub.result c.place.result c.size_of.result H es count size few within
