@@ -29,7 +29,7 @@ one_few : (b : Bool) (e : Entry) → length (one_if b e) ≤ 1
 one_few true e = omega arith
 one_few false e = omega arith
 
-some_longer : (es : History) (e : Entry) → es ++ e ∷ [] ≢ []
+pub some_longer : (es : History) (e : Entry) → es ++ e ∷ [] ≢ []
 some_longer [] e is = cc is
 some_longer (x ∷ es) e is = cc is
 

@@ -12,7 +12,7 @@ use Rattle.ucon_outcome.specs.declared.outcome.Outcome.{Outcome}
 use Rattle.ucon_store.specs.Found.{IsFoundAs}
 use Rattle.ucon_store.specs.Kept.{Kept}
 use Rattle.ucon_store.specs.Opened.{Parted, last_point}
-use Rattle.ucon_store.specs.Opening.{Opens}
+use Rattle.ucon_store.specs.Opening.{IsSeenAs, Opens}
 use Rattle.ucon_store.specs.Points.{IsOld, SamePlaces, has_points, point_places}
 use Rattle.ucon_store.specs.Starts.{BeginsAt, IsStart}
 use Rattle.ucon_store.specs.Stays.{IsFoundBetween}
@@ -23,13 +23,15 @@ use Rattle.ucon_tell.specs.declared.talk_fault.TalkFault.{TalkFault}
 use Rattle.ucon_turn.specs.Lists.{begins_refl}
 use Rattle.ucon_converse.specs.Answering.{Answering}
 use Rattle.ucon_converse.specs.Conversation.{HasConversedBy}
-use Rattle.ucon_converse.specs.Ended.{IsFoundSinceBy, IsHeldBehindBy, IsHeldBy, IsTalkedOver, opened_on, steps_before}
+use Rattle.ucon_converse.specs.Ended.{IsAnsweredOverBy, IsFoundSinceBy, IsHeldBehindBy, IsHeldBy, IsTalkedOver, opened_on, steps_before}
 use Rattle.ucon_converse.specs.Holding.{IsFoundedAt, IsLeftBy, standing}
 use Rattle.ucon_converse.specs.Keeping.{IsDated, IsLed}
 use Rattle.ucon_converse.specs.KeeperLaws.{based_later}
+use Rattle.ucon_converse.specs.Reached.{IsSeenAtBy, reached_by}
 use Rattle.ucon_converse.specs.Replies.{Standing}
 use Rattle.ucon_converse.proofs.Conversing.{begins_behind}
 use Rattle.ucon_converse.proofs.Dated.{conversed_as}
+use Rattle.ucon_converse.proofs.Overall.{seen_at}
 
 begun_at : (p : Option Parted) (point : Option Bytes) (before : ℕ) → BeginsAt p point before → before ≡ steps_before p
 begun_at None point before begins = begins.1
@@ -62,6 +64,8 @@ module _ {D : Type 0} (seen : D → DiskSeen) (only : (d : D) (c : List ℕ) →
     (begins : IfSome (seen disk).contents (λ file. BeginsAt (last_point file) store.point store.before))
     (same_places : SamePlaces (seen disk).contents (seen store.disk).contents)
     (old : (before now : Bytes) → (seen disk).contents ≡ Some before → (seen store.disk).contents ≡ Some now → (has_points now ≡ false) ↔ IsOld before)
+    (led : (T : Trace) × IsStart P store.point store.before T)
+    (shown : IfSome (seen disk).contents (IsSeenAs P store.policy store.point store.before store.entries))
     (now : D) (outcome : Outcome) (before after : VoiceSeen) (hears : Result (Unit {0}) TalkFault → Bytes → Type 0)
     (over : IsTalkedOver seen (record { store = store; made = []; tried = store.before }) now outcome before after hears) where
   abbrev First : Answering D
@@ -143,12 +147,28 @@ module _ {D : Type 0} (seen : D → DiskSeen) (only : (d : D) (c : List ℕ) →
               ((based_later seen only read First over.closed P G (point_places file) over.keeps at).each c (subst (λ (d : D). (seen d).images c) over.disk_is image));
         }
 
+  -- what was answered, whatever the disk tells
+  answers : IsAnsweredOverBy accepted text P outcome (seen disk) (seen now) before after hears
+  answers = record {
+    first = reached_by P led.0 store;
+    seen = if_places (seen disk).contents (IsSeenAs P store.policy store.point store.before store.entries) (IsSeenAtBy accepted P text (reached_by P led.0 store))
+        (λ file is. seen_at P led.0 text store file policy led.1 is) shown;
+    unmarked = unmarked;
+    result = over.result;
+    last = reached_by P led.0 over.closed.store;
+    outcome_is = over.outcome_is;
+    answered = over.answered P led.0 (ap accepted policy ∙ accepts) led.1;
+    unfailed = λ none. ap (λ (d : D). (seen d).faults) over.disk_is ∙ (over.keeps.stays.unfailed (ap is_some (none ∙ sym unmarked)) ∙ unfailed);
+    failed = λ es is. ap (λ (d : D). (seen d).faults) over.disk_is ∙ (over.keeps.stays.failed unmarked es is ∙ ap raised unfailed);
+  }
+
   -- a conversation over a store that was opened
   pub held_over : ((file : Bytes) (H : History) → (seen disk).contents ≡ Some file → IsFoundAs text file H → GoesOnFrom seen P store H)
       → IsHeldBy accepted text outcome (seen disk) (seen now) before after hears
   held_over founded = record {
     policy = P;
     reads_so = accepts;
+    answers = answers;
     run = λ file opening is found.
         let goes = founded file opening is found in
         subst (λ (H : History). IsHeldBehindBy accepted text P file H outcome (seen disk) (seen now) before after hears) (sym goes.all)

@@ -1,6 +1,5 @@
 -- A store that makes checkpoints: what is told of them, and what a crash leaves of them.
-use Rattle.std.proofs.Common.{◌≡◌, ◌≢◌, ◌↔◌, ◌⊎◌, inl, inr, ⊎_elim, true, false, Result, Ok, Err, ℕ, ◌+◌, ◌<◌, ◌≤◌, List, [], ◌∷◌, ◌++◌, length, append_assoc, refl, sym, ap, subst, ◌∙◌, arith}
-use Rattle.std.proofs.lemmas.List.{append-nil}
+use Rattle.std.proofs.Common.{◌≡◌, ◌≢◌, ◌↔◌, ◌⊎◌, inl, inr, ⊎_elim, true, false, Result, Ok, Err, ℕ, ◌+◌, ◌<◌, ◌≤◌, List, [], ◌∷◌, ◌++◌, length, append_assoc, refl, sym, ap, subst, ◌∙◌}
 use Rattle.std.specs.Prelude.{Option, Some, None, IsSome, IfSome, IfOk, IfErr, OnOk, IsErrOf, bytes_eq}
 use Rattle.ucon_disk.specs.Disk.{Only}
 use Rattle.ucon_disk.specs.Run.{LeavesOnly, weaker}
@@ -8,7 +7,7 @@ use Rattle.ucon_disk.specs.Seen.{DiskSeen}
 use Rattle.ucon_journal.specs.Found.{counted}
 use Rattle.ucon_journal.specs.JournalBytes.{magic}
 use Rattle.ucon_model.specs.Action.{Trace}
-use Rattle.ucon_model.specs.History.{History, trace, trace_from}
+use Rattle.ucon_model.specs.History.{History, trace}
 use Rattle.ucon_model.specs.Payload.{most_payload}
 use Rattle.ucon_model.specs.Plain.{Bytes, PlainPolicy}
 use Rattle.ucon_point.specs.PointText.{point_text}
@@ -27,10 +26,10 @@ use Rattle.ucon_store.specs.Whole.{IsFounded, IsFront}
 use Rattle.ucon_converse.specs.declared.points.Points.{Points}
 use Rattle.ucon_converse.specs.Answering.{Answering, answering}
 use Rattle.ucon_converse.specs.Holding.{HasFirst, HasPointsOf, HasPointsPast, IsFoundedAt, standing, stands}
-use Rattle.ucon_converse.specs.Keeping.{IsDated, IsLed, Keeps, KeepsPoints, moment_of}
-use Rattle.ucon_converse.specs.KeeperLaws.{first_held, keeps_same, left_founded, points_past}
+use Rattle.ucon_converse.specs.Keeping.{IsDated, Keeps, KeepsPoints}
+use Rattle.ucon_converse.specs.KeeperLaws.{keeps_same, left_founded}
 use Rattle.ucon_converse.specs.Noted.{noted}
-use Rattle.ucon_converse.specs.Replies.{IsPointed, Standing}
+use Rattle.ucon_converse.specs.Replies.{IsPointed}
 use Rattle.ucon_converse.proofs.Stepping.{moments_rise, not_marked}
 use Rattle.ucon_converse.proofs.Tellings.{whole_count, whole_trace}
 

@@ -25,8 +25,8 @@ use Rattle.ucon_tell.specs.declared.talk_fault.TalkFault.{TalkFault}
 use Rattle.ucon_tell.specs.declared.talk_fault.TalkFault.TheVariants as faults
 use Rattle.ucon_turn.specs.Lists.{Begins}
 use Rattle.ucon_converse.specs.Answering.{Answering}
-use Rattle.ucon_converse.specs.Conversation.{HasConversedBy, IsMarkOf, IsRunOver, IsStoppedBy, IsToldOnceKeptBy, behind, goes_out}
-use Rattle.ucon_converse.specs.Exchanges.{Exchange, IsAnswered, lines_in, replies_in}
+use Rattle.ucon_converse.specs.Conversation.{HasConversedBy, IsMarkOf, IsRunOver, IsStoppedBy, IsToldOnceKeptBy, goes_out}
+use Rattle.ucon_converse.specs.Exchanges.{Exchange, IsAnswered, behind, lines_in, replies_in}
 use Rattle.ucon_converse.specs.Greeting.{HasGreeted}
 use Rattle.ucon_converse.specs.Holding.{IsFoundPast, IsFoundedAt, standing}
 use Rattle.ucon_converse.specs.Keeping.{GivesReplies, IsDated, Keeps, Refuses, kept_seen, moment_of}
@@ -112,11 +112,11 @@ module _ {D : Type 0} (seen : D → DiskSeen) (only : (d : D) (c : List ℕ) →
 
     along_one : (old : Type 0) (before : Answering D) (r : Round (Answering D)) → (IsDated (seen before.store.disk).contents → old) → accepted before.store.policy ≡ Some P
         → IsFront P before.store G → AreAnswered 65546 (GivesReplies seen) before r ⊎ IsRefused 65546 Refuses before r
-        → Along accepted P before.store.policy old (standing G places before) (standing G places r.after) r.told
+        → Along (GivesReplyBy accepted P before.store.policy old) (standing G places before) (standing G places r.after) r.told
     along_one old before r dated accepts front (inl a) =
-        given_along accepted P before.store.policy old (standing G places before) (standing G places r.after) r.told a.each (said_one old before r.after r.told dated accepts front a.answered)
+        given_along (GivesReplyBy accepted P before.store.policy old) (standing G places before) (standing G places r.after) r.told a.each (said_one old before r.after r.told dated accepts front a.answered)
     along_one old before r dated accepts front (inr a) =
-        refused_along accepted P before.store.policy old (standing G places before) (standing G places r.after) r.told a.one a.alone
+        refused_along (GivesReplyBy accepted P before.store.policy old) (standing G places before) (standing G places r.after) r.told a.one a.alone
         (record {
           line = a.line;
           reply = a.reply;
@@ -126,14 +126,14 @@ module _ {D : Type 0} (seen : D → DiskSeen) (only : (d : D) (c : List ℕ) →
 
     said_along : (old : Type 0) (first last : Answering D) (rounds : List (Round (Answering D))) → (IsDated (seen first.store.disk).contents → old)
         → accepted first.store.policy ≡ Some P → IsFront P first.store G → Rounds' first rounds last
-        → AllAlong accepted P first.store.policy old (standing G places) (standing G places first) (standing G places last) rounds
+        → AllAlong (GivesReplyBy accepted P first.store.policy old) (standing G places) (standing G places first) (standing G places last) rounds
     said_along old first last [] dated accepts front run =
-        no_rounds accepted P first.store.policy old (standing G places) (standing G places first) (standing G places last) (ap (standing G places) run)
+        no_rounds (GivesReplyBy accepted P first.store.policy old) (standing G places) (standing G places first) (standing G places last) (ap (standing G places) run)
     said_along old first last (r ∷ rounds) dated accepts front run =
         let keeps = keeps_one first r run.0 in
         let s = keeps.stays in
-        one_more accepted P first.store.policy old (standing G places) (standing G places first) (standing G places last) r rounds (along_one old first r dated accepts front run.0)
-        (subst (λ (text : Bytes). AllAlong accepted P text old (standing G places) (standing G places r.after) (standing G places last) rounds) s.policy
+        one_more (GivesReplyBy accepted P first.store.policy old) (standing G places) (standing G places first) (standing G places last) r rounds (along_one old first r dated accepts front run.0)
+        (subst (λ (text : Bytes). AllAlong (GivesReplyBy accepted P text old) (standing G places) (standing G places r.after) (standing G places last) rounds) s.policy
         (said_along old r.after last rounds (λ d. dated (dated_before (seen first.store.disk).contents (seen r.after.store.disk).contents s.tells keeps.kind d))
         (ap accepted s.policy ∙ accepts) (front_same P first.store r.after.store G s.policy s.point s.before front) run.1))
 
@@ -164,7 +164,7 @@ module _ {D : Type 0} (seen : D → DiskSeen) (only : (d : D) (c : List ℕ) →
 
         -- a round was told, or a front of it
         replied_once_kept : (held held' : Bytes) → held' ≡ held ++ ready → (old : Type 0) (reached : Answering D) (rounds : List (Round (Answering D))) → Rounds' first rounds reached
-            → (a : AllAlong accepted P first.store.policy old (standing G places) (standing G places first) (standing G places reached) rounds)
+            → (a : AllAlong (GivesReplyBy accepted P first.store.policy old) (standing G places) (standing G places first) (standing G places reached) rounds)
             → (b : Bytes) (t : ℕ) → IsToldOnceKept (kept_seen seen) (Keeps seen) held' rounds last b t → Told' held a.exchanges b t
         replied_once_kept held held' wrote old reached rounds run a b t h =
             let so_far = front_part first reached h.earlier h.one h.later (subst (λ (l : List (Round (Answering D))). Rounds' first l reached) h.among run) in
@@ -189,7 +189,7 @@ module _ {D : Type 0} (seen : D → DiskSeen) (only : (d : D) (c : List ℕ) →
             }
 
         by_voice : (o u : Option Bytes) → Appends o u ready → (old : Type 0) (reached : Answering D) (rounds : List (Round (Answering D))) → Rounds' first rounds reached
-            → (a : AllAlong accepted P first.store.policy old (standing G places) (standing G places first) (standing G places reached) rounds) → (b : Bytes) (t : ℕ)
+            → (a : AllAlong (GivesReplyBy accepted P first.store.policy old) (standing G places) (standing G places first) (standing G places reached) rounds) → (b : Bytes) (t : ℕ)
             → IfSome u (λ held. IsToldOnceKept (kept_seen seen) (Keeps seen) held rounds last b t) → IfSome o (λ held. Told' held a.exchanges b t)
         by_voice None u wrote old reached rounds run a b t h = tt
         by_voice (Some held) None wrote old reached rounds run a b t h = absurd wrote

@@ -23,13 +23,13 @@ use Rattle.ucon_converse.specs.Requests.{refusal_words}
 use Rattle.ucon_converse.specs.Said.{fault_line, line_told, unheard_so}
 
 -- a client's text is one
-one_text : (line : Bytes) (one other : Caller) (text more : Bytes) → one ≡ other → IsAskedBy line one text → IsAskedBy line other more → more ≡ text
+pub one_text : (line : Bytes) (one other : Caller) (text more : Bytes) → one ≡ other → IsAskedBy line one text → IsAskedBy line other more → more ≡ text
 one_text line one other text more same p q =
     let lines : decimal one.0 ++ 32 ∷ more ≡ decimal one.0 ++ 32 ∷ text = ap (λ (c : Caller). decimal c.0 ++ 32 ∷ more) same ∙ (sym q.line_is ∙ p.line_is) in
     let behind : 32 ∷ more ≡ 32 ∷ text = append_cancel_left (decimal one.0) (32 ∷ more) (32 ∷ text) lines in
     cc behind
 
-said_otherwise : {A B : Type 0} (r : Result A B) (a : A) (b : B) → r ≡ Ok a → r ≡ Err b → ⊥
+pub said_otherwise : {A B : Type 0} (r : Result A B) (a : A) (b : B) → r ≡ Ok a → r ≡ Err b → ⊥
 said_otherwise r a b ok err = let bad : Ok a ≡ Err b = sym ok ∙ err in cc bad
 
 -- what is told where no memory was there, as it is done

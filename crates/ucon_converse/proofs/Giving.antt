@@ -7,6 +7,7 @@ use Rattle.ucon_base.specs.Elements.{Each, each_both, each_map}
 use Rattle.ucon_disk.specs.Seen.{DiskSeen}
 use Rattle.ucon_flow.specs.Lines.{IsBare, IsLine}
 use Rattle.ucon_model.specs.declared.command.Entry.{Entry}
+use Rattle.ucon_model.specs.Action.{Trace}
 use Rattle.ucon_model.specs.History.{History}
 use Rattle.ucon_model.specs.LegalRun.{Answered}
 use Rattle.ucon_model.specs.Output.{answer_line, output}
@@ -14,6 +15,7 @@ use Rattle.ucon_model.specs.Plain.{Bytes, PlainPolicy}
 use Rattle.ucon_store.specs.declared.batch.BatchEnd.{BatchEnd}
 use Rattle.ucon_store.specs.declared.batch.BatchEnd.TheVariants as ends
 use Rattle.ucon_store.specs.declared.placed.Placed.{Placed}
+use Rattle.ucon_store.specs.Starts.{IsStart}
 use Rattle.ucon_store.specs.Whole.{IsFront}
 use Rattle.ucon_syntax.specs.Policies.{accepted}
 use Rattle.ucon_tell.specs.Told.{AreAnsweredUntold, AreReplied, IsFrontOf, IsReplied, IsWithin, Told, lines_of, replies_of}
@@ -21,6 +23,7 @@ use Rattle.ucon_converse.specs.Answering.{Answering}
 use Rattle.ucon_converse.specs.Fronts.{StandsInFront}
 use Rattle.ucon_converse.specs.Holding.{standing}
 use Rattle.ucon_converse.specs.Keeping.{GivesReplies, GivesReply, IsDated, Keeps}
+use Rattle.ucon_converse.specs.Reached.{AreGivenAtBy, Reached, StepEachAt, reached_by}
 use Rattle.ucon_converse.specs.Replies.{AreGivenBy, Standing}
 use Rattle.ucon_converse.specs.Requests.{IsRequestBy}
 use Rattle.ucon_converse.specs.Together.{AreInFront, ArePut, IsInFront, StepEach, all_stopped, answered_so, broken_off, replied, unheard_first}
@@ -84,6 +87,7 @@ pub record FrontTold (limit : ℕ) (told : List Answered) (came : Bytes) : Type 
   pub front : came ≡ lines_of all ++ rest
   pub replies : replies_of all ≡ output told
   pub given : (old : Type 0) (P : PlainPolicy) (text : Bytes) (first last : Standing) → StepEach old P text first told last → AreGivenBy accepted P text old first last all
+  pub given_at : (P : PlainPolicy) (first last : Reached) → StepEachAt P first told last → AreGivenAtBy accepted P first last all
 
 pub front_told : (limit : ℕ) (es : List Entry) (told : List Answered) (came rest : Bytes) → AreInFront limit es came rest → AreOf told es → FrontTold limit told came
 front_told limit es [] came rest is of = record {
@@ -95,6 +99,7 @@ front_told limit es [] came rest is of = record {
   front = refl;
   replies = refl;
   given = λ old P text first last steps. steps;
+  given_at = λ P first last steps. steps;
 }
 front_told limit [] (t ∷ told) came rest is of = absurd of
 front_told limit (e ∷ es) (t ∷ told) came rest is of =
@@ -119,6 +124,11 @@ front_told limit (e ∷ es) (t ∷ told) came rest is of =
         }),
         r.given old P text steps.0 last steps.2,
       );
+      given_at = λ P first last steps. (
+        steps.0,
+        inl (record { told = t; request = subst (λ (x : Entry). IsRequestBy accepted one.line x) (sym of.0) one.request; step = steps.1; reply_is = refl }),
+        r.given_at P steps.0 last steps.2,
+      );
     }
 
 bare_each : (limit : ℕ) (told : List Told) → Each (λ t. IsBare t.line × (length t.line < limit)) told → Each (λ t. IsBare t.line) told
@@ -130,25 +140,30 @@ module _ {D : Type 0} (seen : D → DiskSeen) (x y : Answering D) (keeps : Keeps
   Steps told = (P : PlainPolicy) (G : History) (places : List ℕ) → accepted x.store.policy ≡ Some P → IsFront P x.store G
       → StepEach (IsDated (seen x.store.disk).contents) P x.store.policy (standing G places x) told (standing G places y)
 
-  given_so : (told : List Answered) (f : FrontTold limit told came) → Steps told → GivesReplies seen x y f.all
-  given_so told f steps = record {
+  abbrev StepsAt : List Answered → Type 0
+  StepsAt told = (P : PlainPolicy) (T : Trace) → accepted x.store.policy ≡ Some P → IsStart P x.store.point x.store.before T
+      → StepEachAt P (reached_by P T x.store) told (reached_by P T y.store)
+
+  given_so : (told : List Answered) (f : FrontTold limit told came) → Steps told → StepsAt told → GivesReplies seen x y f.all
+  given_so told f steps steps_at = record {
     keeps = keeps;
     said = λ P G places accepts front'.
         f.given (IsDated (seen x.store.disk).contents) P x.store.policy (standing G places x) (standing G places y) (steps P G places accepts front');
+    said_at = λ P T accepts starts. f.given_at P (reached_by P T x.store) (reached_by P T y.store) (steps_at P T accepts starts);
   }
 
   -- they were answered so, and nobody is told
-  pub together_untold : (told : List Answered) → AreOf told es → Steps told → AreAnsweredUntold limit (GivesReplies seen) (λ lines. IsFrontOf lines came) x y
-  together_untold told of steps =
+  pub together_untold : (told : List Answered) → AreOf told es → Steps told → StepsAt told → AreAnsweredUntold limit (GivesReplies seen) (λ lines. IsFrontOf lines came) x y
+  together_untold told of steps steps_at =
       let f = front_told limit es told came front.0 front.1 of in
-      record { told = f.all; each = f.fits; came = (f.rest, f.front); answer = given_so told f steps }
+      record { told = f.all; each = f.fits; came = (f.rest, f.front); answer = given_so told f steps steps_at }
 
   -- the lines of these answers were put
   pub together_replied : (told : List Answered) (old new : Bytes) (count len : ℕ) → 0 < length told → AreOf told es → ArePut told old new → count ≡ length told
-      → Steps told
+      → Steps told → StepsAt told
       → ((all : List Told) (rest : Bytes) → Each (λ t. IsBare t.line) all → came ≡ lines_of all ++ rest → count ≡ length all → len ≡ length (lines_of all))
       → AreReplied limit (GivesReplies seen x y) came len old new
-  together_replied told old new count len some of put counted steps lens =
+  together_replied told old new count len some of put counted steps steps_at lens =
       let f = front_told limit es told came front.0 front.1 of in
       let is : len ≡ length (lines_of f.all) = lens f.all f.rest (bare_each limit f.all f.fits) f.front (counted ∙ f.count) in
       let rest : drop len came ≡ f.rest = (λ i. drop (is i) (f.front i)) ∙ drop-append_seam (lines_of f.all) f.rest in
@@ -158,7 +173,7 @@ module _ {D : Type 0} (seen : D → DiskSeen) (x y : Answering D) (keeps : Keeps
         each =
             each_both (λ t. IsBare t.line × (length t.line < limit)) (λ t. IsLine t.reply) (IsWithin limit)
             (λ t h l. record { line = h.0; fits = h.1; reply = l }) f.all f.fits (f.lines put.0);
-        answered = given_so told f steps;
+        answered = given_so told f steps steps_at;
         front = f.front ∙ ap (λ (l : Bytes). lines_of f.all ++ l) (sym rest);
         len = is;
         text = put.1 ∙ ap (λ (l : Bytes). old ++ l) (sym f.replies);
@@ -166,12 +181,20 @@ module _ {D : Type 0} (seen : D → DiskSeen) (x y : Answering D) (keeps : Keeps
 
 -- ---- one line
 
+all_of_one : {D : Type 0} (seen : D → DiskSeen) (x y : Answering D) (line reply : Bytes) → GivesReply seen x y line reply
+    → GivesReplies seen x y (record { line = line; reply = reply } ∷ [])
+all_of_one seen x y line reply is = record {
+  keeps = is.keeps;
+  said = λ P G places accepts front. (standing G places y, is.said P G places accepts front, refl);
+  said_at = λ P T accepts starts. (reached_by P T y.store, is.said_at P T accepts starts, refl);
+}
+
 -- the first line had its reply
 pub first_replied : {D : Type 0} (seen : D → DiskSeen) (x y : Answering D) (limit : ℕ) (line came old new : Bytes) → StandsInFront limit line came
     → IsReplied (GivesReply seen x y line) old new → AreReplied limit (GivesReplies seen x y) came (length line + 1) old new
 first_replied seen x y limit line came old new stands is =
     one_replied limit (GivesReplies seen x y) line came old new stands
-    (is.0, is.1, record { keeps = is.2.keeps; said = λ P G places accepts front. (standing G places y, is.2.said P G places accepts front, refl) }, is.3)
+    (is.0, is.1, all_of_one seen x y line is.0 is.2, is.3)
 
 -- nothing was done, or the first line was answered, and nobody is told
 pub first_untold : {D : Type 0} (seen : D → DiskSeen) (x y : Answering D) (limit : ℕ) (line came : Bytes) → StandsInFront limit line came
@@ -183,5 +206,5 @@ first_untold seen x y limit line came stands is = ⊎_elim
       told = record { line = line; reply = one.0 } ∷ [];
       each = ((stands.bare, stands.fits), tt);
       came = (drop (length line + 1) came, stands.all ∙ sym (append_assoc line (10 ∷ []) (drop (length line + 1) came)));
-      answer = record { keeps = one.1.keeps; said = λ P G places accepts front. (standing G places y, one.1.said P G places accepts front, refl) };
+      answer = all_of_one seen x y line one.0 one.1;
     })) is

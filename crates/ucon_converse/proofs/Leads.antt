@@ -2,7 +2,7 @@
 use Rattle.std.proofs.Common.{◌≡◌, ◌⊎◌, inl, inr, ⊎_elim, true, false, ℕ, ◌<◌, ◌≤◌, List, [], ◌∷◌, ◌++◌, length, append_assoc, refl, sym, ap, subst, ◌∙◌}
 use Rattle.std.proofs.lemmas.Bool.Decides.{leb_tells}
 use Rattle.std.proofs.lemmas.List.{append-nil}
-use Rattle.std.specs.Prelude.{Bool, Option, Some, None, IsSome, Result, Ok, Err, codes}
+use Rattle.std.specs.Prelude.{Bool, Option, Some, None, IsSome, Result, Ok, Err}
 use Rattle.ucon_base.specs.Elements.{Each}
 use Rattle.ucon_model.specs.declared.command.Entry.{Entry}
 use Rattle.ucon_model.specs.Plain.{Bytes, PlainPolicy}
@@ -16,7 +16,7 @@ use Rattle.ucon_store.specs.Points.{PolicyReading}
 use Rattle.ucon_converse.specs.Exchanges.{AnswersEach, Exchange, IsAnswered}
 use Rattle.ucon_converse.specs.Conversation.{AreInDoubt, IsMarkOf}
 use Rattle.ucon_converse.specs.Due.{is_due_after}
-use Rattle.ucon_converse.specs.Replies.{AreAnswersBy, GivesReplyBy, GoesOn, IsAskedAndAnswered, IsPointed, IsTooLong, JoinsDoubt, LeadsOn, Rests, Standing, pointed_at, stopped_at, tried_at}
+use Rattle.ucon_converse.specs.Replies.{AreAnswersBy, GivesReplyBy, GoesOn, IsAskedAndAnswered, IsPointed, IsTooLong, JoinsDoubt, LeadsOn, Rests, Standing, tried_at}
 use Rattle.ucon_converse.specs.Requests.{IsNoRequestBy}
 use Rattle.ucon_converse.proofs.Unasked.{no_request, point_asks_nothing}
 

@@ -12,7 +12,9 @@ pub mod Growing
 pub mod Leads
 pub mod Long
 pub mod OneLine
+pub mod Overall
 pub mod PolicyLines
+pub mod Reaching
 pub mod ReadingBack
 pub mod ReadingExamples
 pub mod Putting
@@ -22,5 +24,8 @@ pub mod Stepping
 pub mod Taking
 pub mod Tellings
 pub mod Batches
+pub mod BatchesAt
 pub mod Unasked
+pub mod Unheard
 pub mod Unpointed
+pub mod Untold

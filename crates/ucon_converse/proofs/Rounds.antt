@@ -2,13 +2,11 @@
 use Rattle.std.proofs.Common.{◌≡◌, ◌⊎◌, ℕ, ◌<◌, ◌≤◌, List, [], ◌∷◌, ◌++◌, length, append_assoc, refl, sym, ap, subst, ◌∙◌, arith}
 use Rattle.std.proofs.lemmas.List.{append-nil}
 use Rattle.ucon_base.specs.Elements.{Each}
-use Rattle.ucon_model.specs.Plain.{Bytes, PlainPolicy}
-use Rattle.ucon_store.specs.Points.{PolicyReading}
+use Rattle.ucon_model.specs.Plain.{Bytes}
 use Rattle.ucon_tell.specs.Talk.{Round, told_in}
 use Rattle.ucon_tell.specs.Told.{IsWithin, Told, lines_of, replies_of}
-use Rattle.ucon_converse.specs.Conversation.{behind}
-use Rattle.ucon_converse.specs.Exchanges.{AnswersEach, Exchange, IsAnswered, lines_in, replies_in}
-use Rattle.ucon_converse.specs.Replies.{AreGivenBy, GivesReplyBy, IsTooLong, Standing}
+use Rattle.ucon_converse.specs.Exchanges.{AnswersAll, AnswersEach, Exchange, IsAnswered, behind, lines_in, replies_in}
+use Rattle.ucon_converse.specs.Replies.{IsTooLong}
 
 -- ---- lists of lines
 
@@ -20,37 +18,37 @@ pub replies_of_append : (xs ys : List Told) → replies_of (xs ++ ys) ≡ replie
 replies_of_append [] ys = refl
 replies_of_append (x ∷ xs) ys = ap (λ (r : List ℕ). x.reply ++ r) (replies_of_append xs ys) ∙ sym (append_assoc x.reply (replies_of xs) (replies_of ys))
 
-lines_in_append : (xs ys : List (Exchange Standing)) → lines_in (xs ++ ys) ≡ lines_in xs ++ lines_in ys
+lines_in_append : {S : Type 0} (xs ys : List (Exchange S)) → lines_in (xs ++ ys) ≡ lines_in xs ++ lines_in ys
 lines_in_append [] ys = refl
 lines_in_append (x ∷ xs) ys = ap (λ (r : List ℕ). x.line ++ 10 ∷ r) (lines_in_append xs ys) ∙ sym (append_assoc x.line (10 ∷ lines_in xs) (lines_in ys))
 
-replies_in_append : (xs ys : List (Exchange Standing)) → replies_in (xs ++ ys) ≡ replies_in xs ++ replies_in ys
+replies_in_append : {S : Type 0} (xs ys : List (Exchange S)) → replies_in (xs ++ ys) ≡ replies_in xs ++ replies_in ys
 replies_in_append [] ys = refl
 replies_in_append (x ∷ xs) ys = ap (λ (r : List ℕ). x.reply ++ r) (replies_in_append xs ys) ∙ sym (append_assoc x.reply (replies_in xs) (replies_in ys))
 
-behind_append : (first : Standing) (xs ys : List (Exchange Standing)) → behind first (xs ++ ys) ≡ behind (behind first xs) ys
+behind_append : {S : Type 0} (first : S) (xs ys : List (Exchange S)) → behind first (xs ++ ys) ≡ behind (behind first xs) ys
 behind_append first [] ys = refl
 behind_append first (x ∷ xs) ys = behind_append x.after xs ys
 
-module _ (reads : PolicyReading) (P : PlainPolicy) (text : Bytes) (old : Type 0) where
-  abbrev Each' : Standing → List (Exchange Standing) → Standing → Type 0
-  Each' first xs last = AnswersEach 65546 (GivesReplyBy reads P text old) IsTooLong first xs last
+module _ {S : Type 0} (gives : S → S → Bytes → Bytes → Type 0) where
+  abbrev Each' : S → List (Exchange S) → S → Type 0
+  Each' first xs last = AnswersEach 65546 gives IsTooLong first xs last
 
-  each_append : (first mid last : Standing) (xs ys : List (Exchange Standing)) → Each' first xs mid → Each' mid ys last → Each' first (xs ++ ys) last
-  each_append first mid last [] ys p q = subst (λ (s : Standing). Each' s ys last) (sym p) q
+  each_append : (first mid last : S) (xs ys : List (Exchange S)) → Each' first xs mid → Each' mid ys last → Each' first (xs ++ ys) last
+  each_append first mid last [] ys p q = subst (λ (s : S). Each' s ys last) (sym p) q
   each_append first mid last (x ∷ xs) ys p q = (p.0, each_append x.after mid last xs ys p.1 q)
 
   -- ---- one round
 
   -- what was told together, line by line
-  pub record Along (first last : Standing) (told : List Told) : Type 0 where
-    pub exchanges : List (Exchange Standing)
+  pub record Along (first last : S) (told : List Told) : Type 0 where
+    pub exchanges : List (Exchange S)
     pub answered : Each' first exchanges last
     pub lines : lines_in exchanges ≡ lines_of told
     pub replies : replies_in exchanges ≡ replies_of told
     pub ends : behind first exchanges ≡ last
 
-  pub given_along : (first last : Standing) (told : List Told) → Each (IsWithin 65546) told → AreGivenBy reads P text old first last told → Along first last told
+  pub given_along : (first last : S) (told : List Told) → Each (IsWithin 65546) told → AnswersAll gives first last told → Along first last told
   given_along first last [] each given = record { exchanges = []; answered = given; lines = refl; replies = refl; ends = given }
   given_along first last (t ∷ told) each given =
       let rest = given_along given.0 last told each.1 given.2 in
@@ -72,7 +70,7 @@ module _ (reads : PolicyReading) (P : PlainPolicy) (text : Bytes) (old : Type 0)
       }
 
   -- a line that was too long
-  pub refused_along : (first last : Standing) (told : List Told) (one : Told) → told ≡ one ∷ [] → (a : IsAnswered 65546 (GivesReplyBy reads P text old) IsTooLong first (record { line = one.line; reply = one.reply; after = last }))
+  pub refused_along : (first last : S) (told : List Told) (one : Told) → told ≡ one ∷ [] → (a : IsAnswered 65546 gives IsTooLong first (record { line = one.line; reply = one.reply; after = last }))
       → Along first last told
   refused_along first last told one alone a = record {
     exchanges = record { line = one.line; reply = one.reply; after = last } ∷ [];
@@ -84,17 +82,17 @@ module _ (reads : PolicyReading) (P : PlainPolicy) (text : Bytes) (old : Type 0)
 
   -- ---- all rounds, over what shows each keeper's standing
 
-  module _ {K : Type 0} (show : K → Standing) where
+  module _ {K : Type 0} (show : K → S) where
     -- up to one round and with it
-    pub record UpTo (first : Standing) (exchanges : List (Exchange Standing)) (earlier : List (Round K)) (one : Round K) : Type 0 where
-      pub by_then : List (Exchange Standing)
-      pub later : List (Exchange Standing)
+    pub record UpTo (first : S) (exchanges : List (Exchange S)) (earlier : List (Round K)) (one : Round K) : Type 0 where
+      pub by_then : List (Exchange S)
+      pub later : List (Exchange S)
       pub all : exchanges ≡ by_then ++ later
       pub replies : replies_in by_then ≡ replies_of (told_in earlier) ++ replies_of one.told
       pub ends : behind first by_then ≡ show one.after
 
-    pub record AllAlong (first last : Standing) (rounds : List (Round K)) : Type 0 where
-      pub exchanges : List (Exchange Standing)
+    pub record AllAlong (first last : S) (rounds : List (Round K)) : Type 0 where
+      pub exchanges : List (Exchange S)
       pub answered : Each' first exchanges last
       pub lines : lines_in exchanges ≡ lines_of (told_in rounds)
       pub replies : replies_in exchanges ≡ replies_of (told_in rounds)
@@ -104,7 +102,7 @@ module _ (reads : PolicyReading) (P : PlainPolicy) (text : Bytes) (old : Type 0)
     never_nothing [] one later is = cc is
     never_nothing (r ∷ earlier) one later is = cc is
 
-    pub no_rounds : (first last : Standing) → first ≡ last → AllAlong first last []
+    pub no_rounds : (first last : S) → first ≡ last → AllAlong first last []
     no_rounds first last same = record {
       exchanges = [];
       answered = same;
@@ -113,7 +111,7 @@ module _ (reads : PolicyReading) (P : PlainPolicy) (text : Bytes) (old : Type 0)
       cut = λ earlier one later is. absurd (never_nothing earlier one later is);
     }
 
-    pub one_more : (first last : Standing) (r : Round K) (rounds : List (Round K)) → Along first (show r.after) r.told → AllAlong (show r.after) last rounds
+    pub one_more : (first last : S) (r : Round K) (rounds : List (Round K)) → Along first (show r.after) r.told → AllAlong (show r.after) last rounds
         → AllAlong first last (r ∷ rounds)
     one_more first last r rounds a rest = record {
       exchanges = a.exchanges ++ rest.exchanges;
@@ -135,10 +133,10 @@ module _ (reads : PolicyReading) (P : PlainPolicy) (text : Bytes) (old : Type 0)
             let so : UpTo first (a.exchanges ++ rest.exchanges) (r ∷ earlier) one = record {
               by_then = a.exchanges ++ u.by_then;
               later = u.later;
-              all = ap (λ (l : List (Exchange Standing)). a.exchanges ++ l) u.all ∙ sym (append_assoc a.exchanges u.by_then u.later);
+              all = ap (λ (l : List (Exchange S)). a.exchanges ++ l) u.all ∙ sym (append_assoc a.exchanges u.by_then u.later);
               replies = replies_in_append a.exchanges u.by_then ∙ ((λ i. a.replies i ++ u.replies i)
                   ∙ (sym (append_assoc (replies_of r.told) (replies_of (told_in earlier)) (replies_of one.told))
                   ∙ ap (λ (l : Bytes). l ++ replies_of one.told) (sym (replies_of_append r.told (told_in earlier)))));
-              ends = behind_append first a.exchanges u.by_then ∙ (ap (λ (s : Standing). behind s u.by_then) a.ends ∙ u.ends);
+              ends = behind_append first a.exchanges u.by_then ∙ (ap (λ (s : S). behind s u.by_then) a.ends ∙ u.ends);
             } in
             subst (λ (x : Round K). UpTo first (a.exchanges ++ rest.exchanges) (x ∷ earlier) one) same so

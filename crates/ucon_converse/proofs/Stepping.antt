@@ -123,8 +123,8 @@ rests_err old P text (Err faults.DiskFault) s bad = refl
 rests_err old P text (Err faults.Stopped) s bad = refl
 
 pub if_ok : {T E : Type 0} (r : Result T E) (So : T → Type 0) (A : Type 0) → ((v : T) → So v → A) → IfOk r So → OnOk r A
-if_ok (Ok v) So A next is = next v is
-if_ok (Err e) So A next is = tt
+if_ok (Ok v) So A f is = f v is
+if_ok (Err e) So A f is = tt
 
 pub on_ok : {T E : Type 0} (r : Result T E) (A : Type 0) → is_ok r ≡ true → OnOk r A → A
 on_ok (Ok v) A ok a = a

@@ -43,7 +43,7 @@ one_off front last old new n count is left =
 
 -- ---- histories
 
-trace_append : (P : PlainPolicy) (T : Trace) (G H : History) → trace_from P T (G ++ H) ≡ trace_from P (trace_from P T G) H
+pub trace_append : (P : PlainPolicy) (T : Trace) (G H : History) → trace_from P T (G ++ H) ≡ trace_from P (trace_from P T G) H
 trace_append P T [] H = refl
 trace_append P T (e ∷ G) H = trace_append P (after P T e.caller e.command) G H
 

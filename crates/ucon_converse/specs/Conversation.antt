@@ -10,18 +10,13 @@ use Rattle.ucon_model.specs.Plain.{Bytes, PlainPolicy}
 use Rattle.ucon_model.specs.StoredRun.{failed_line}
 use Rattle.ucon_store.specs.Points.{PolicyReading}
 use Rattle.ucon_tell.specs.Seen.{VoiceSeen}
-use Rattle.ucon_converse.specs.Exchanges.{AnswersEach, Exchange, lines_in, replies_in}
+use Rattle.ucon_converse.specs.Exchanges.{AnswersEach, Exchange, behind, lines_in, replies_in}
 use Rattle.ucon_tell.specs.Talk.{ends_by}
 use Rattle.ucon_tell.specs.Told.{IsFrontOf}
 use Rattle.ucon_tell.specs.declared.talk_fault.TalkFault.{TalkFault}
 use Rattle.ucon_tell.specs.declared.talk_fault.TalkFault.TheVariants as faults
 use Rattle.ucon_converse.specs.Holding.{IsFoundPastBy}
 use Rattle.ucon_converse.specs.Replies.{AreAnswersBy, AreGivenBy, GivesReplyBy, IsTooLong, Standing, ready_line}
-
--- what a store stands for behind these exchanges
-abbrev pub behind : Standing → List (Exchange Standing) → Standing
-behind first [] = first
-behind first (x ∷ xs) = behind x.after xs
 
 -- The first line and the replies went out whole, but where the sink failed; where there was no memory for the first line nothing did.
 abbrev pub goes_out : Result (Unit {0}) TalkFault → Option Bytes → Option Bytes → Bytes → Bytes → Type 0

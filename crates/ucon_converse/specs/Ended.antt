@@ -1,9 +1,10 @@
 -- How a whole conversation ends: the journal isn't opened, or lines were answered over it.
-use Rattle.std.specs.Prelude.{◌≡◌, ◌⊎◌, ⊤, ℕ, ◌<◌, Bool, true, false, List, [], ◌∷◌, ◌++◌, length, Option, IfSome, Some, None, is_some, IsSome, Result, Ok, Err}
+use Rattle.std.specs.Prelude.{◌≡◌, ◌⊎◌, ⊤, ℕ, ◌<◌, Bool, true, false, List, [], ◌++◌, length, Option, IfSome, Some, None, is_some, IsSome, Result, Ok, Err}
 use Rattle.ucon_disk.specs.Causes.{raised}
 use Rattle.ucon_disk.specs.Run.{IsAtRest, LeavesAfter, LeavesOnly}
 use Rattle.ucon_disk.specs.Seen.{DiskSeen}
 use Rattle.ucon_journal.specs.Found.{counted}
+use Rattle.ucon_model.specs.Action.{Trace}
 use Rattle.ucon_model.specs.History.{History}
 use Rattle.ucon_model.specs.Plain.{Bytes, PlainPolicy}
 use Rattle.ucon_outcome.specs.declared.outcome.Outcome.{Outcome}
@@ -17,6 +18,7 @@ use Rattle.ucon_store.specs.Found.{IsFoundBy}
 use Rattle.ucon_store.specs.Opened.{Parted, last_point, steps_among}
 use Rattle.ucon_store.specs.Opening.{HasReasonBy, OpensBy}
 use Rattle.ucon_store.specs.Points.{IsOld, PolicyReading, point_places}
+use Rattle.ucon_store.specs.Starts.{IsStart}
 use Rattle.ucon_store.specs.Whole.{IsFront}
 use Rattle.ucon_syntax.specs.Policies.{accepted}
 use Rattle.ucon_tell.specs.Heard.{Hears}
@@ -30,6 +32,7 @@ use Rattle.ucon_converse.specs.Holding.{HasFirst, IsFoundedAt, IsLeftBy, standin
 use Rattle.ucon_converse.specs.Keeping.{IsDated, Keeps}
 use Rattle.ucon_converse.specs.PolicyFaults.{IsPolicyFaultOf}
 use Rattle.ucon_converse.specs.PolicyPart.{IsLongPolicy, TakesPolicy}
+use Rattle.ucon_converse.specs.Reached.{HasAnsweredBy, IsSeenAtBy, Reached, reached_by}
 use Rattle.ucon_converse.specs.Replies.{Standing}
 
 -- How it ends, by how the talk did, and by whether a step has met a disk fault. A fault of the source or of the sink stands before one of the disk.
@@ -43,8 +46,8 @@ ended_so (Err (faults.NoMemory e)) failed = outcomes.NoMemory e
 
 -- ---- over a store
 
--- A store that answers lines was talked with and closed, behind each history that leads to where it begins. Of what was heard this is so, by how the
--- talk ended.
+-- A store that answers lines was talked with and closed, behind each trace and each history that leads to where it begins. Of what was heard this is
+-- so, by how the talk ended.
 pub record IsTalkedOver {D : Type 0} (seen : D → DiskSeen) (first : Answering D) (disk : D) (outcome : Outcome) (before now : VoiceSeen)
     (hears : Result (Unit {0}) TalkFault → Bytes → Type 0) : Type 0 where
   pub closed : Answering D
@@ -52,6 +55,8 @@ pub record IsTalkedOver {D : Type 0} (seen : D → DiskSeen) (first : Answering 
   pub keeps : Keeps seen first closed
   pub result : Result (Unit {0}) TalkFault
   pub outcome_is : outcome ≡ ended_so result (is_some closed.store.mark)
+  pub answered : (P : PlainPolicy) (T : Trace) → accepted first.store.policy ≡ Some P → IsStart P first.store.point first.store.before T
+      → HasAnsweredBy accepted P 65546 result (reached_by P T first.store) (reached_by P T closed.store) before now (hears result)
   pub conversed : (P : PlainPolicy) (G : History) (places : List ℕ) → accepted first.store.policy ≡ Some P → IsFront P first.store G → first.store.mark ≡ None
       → HasConversedBy accepted P first.store.policy (IsDated (seen first.store.disk).contents) 65546 result (standing G places first) (standing G places closed)
       before now (seen closed.store.disk) (IsFoundedAt seen P first G places) (hears result)
@@ -101,12 +106,27 @@ pub record IsNotOpenedBy (reads : PolicyReading) (text : Bytes) (outcome : Outco
   pub contents : now.contents ≡ before.contents
   pub silent : (b : Bytes) (t : ℕ) → now.told b t → before.told b t
 
--- The text is a policy's, and the journal was opened under it. If the file was found as a history, the conversation went on behind that. A file
--- that opening alone accepts has none, and nothing is said of the replies.
+-- Lines were answered behind the actions that opening saw in the file, if the disk told it. The disk's count of faults is one more if a call met a disk
+-- fault, and otherwise as it was.
+pub record IsAnsweredOverBy (reads : PolicyReading) (text : Bytes) (P : PlainPolicy) (outcome : Outcome) (old new : DiskSeen) (before now : VoiceSeen)
+    (hears : Result (Unit {0}) TalkFault → Bytes → Type 0) : Type 0 where
+  pub first : Reached
+  pub seen : IfSome old.contents (IsSeenAtBy reads P text first)
+  pub unmarked : first.failed ≡ None
+  pub result : Result (Unit {0}) TalkFault
+  pub last : Reached
+  pub outcome_is : outcome ≡ ended_so result (is_some last.failed)
+  pub answered : HasAnsweredBy reads P 65546 result first last before now (hears result)
+  pub unfailed : last.failed ≡ None → new.faults ≡ old.faults
+  pub failed : (es : History) → last.failed ≡ Some es → new.faults ≡ raised old.faults
+
+-- The text is a policy's, and the journal was opened under it. Lines were answered, whatever the disk tells and its file was found as. If it was found
+-- as a history, the conversation went on behind that.
 pub record IsHeldBy (reads : PolicyReading) (text : Bytes) (outcome : Outcome) (old new : DiskSeen) (before now : VoiceSeen)
     (hears : Result (Unit {0}) TalkFault → Bytes → Type 0) : Type 0 where
   pub policy : PlainPolicy
   pub reads_so : reads text ≡ Some policy
+  pub answers : IsAnsweredOverBy reads text policy outcome old new before now hears
   pub run : (file : Bytes) (opening : History) → old.contents ≡ Some file → IsFoundBy reads text file opening
       → IsHeldBehindBy reads text policy file opening outcome old new before now hears
 

@@ -1,5 +1,5 @@
 -- What each image of a store's disk holds once a line was answered.
-use Rattle.std.specs.Prelude.{◌≡◌, ◌⊎◌, ℕ, List, [], ◌∷◌, ◌++◌, length, Option, Some, None, IsSome, IfSome}
+use Rattle.std.specs.Prelude.{◌≡◌, ◌⊎◌, ℕ, List, [], ◌∷◌, ◌++◌, length, Some, None, IsSome, IfSome}
 use Rattle.ucon_disk.specs.Seen.{DiskSeen}
 use Rattle.ucon_journal.specs.Found.{counted}
 use Rattle.ucon_model.specs.History.{History}

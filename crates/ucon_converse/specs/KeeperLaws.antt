@@ -1,20 +1,18 @@
 -- The laws of a keeper, for a store that answers lines.
 use Rattle.std.proofs.Common.{◌≡◌, ◌⊎◌, inl, inr, ⊎_elim, ℕ, ◌+◌, ◌≤◌, List, [], ◌∷◌, ◌++◌, length, append_assoc, refl, sym, ap, subst, ◌∙◌, arith}
-use Rattle.std.proofs.lemmas.List.{append-nil}
-use Rattle.std.specs.Prelude.{Option, Some, None, IsSome, IfSome, is_some, option_map, unwrap_or, true, false}
+use Rattle.std.specs.Prelude.{Option, Some, None, IsSome, IfSome, option_map, unwrap_or, true, false}
 use Rattle.ucon_disk.specs.Disk.{Only}
-use Rattle.ucon_disk.specs.Run.{LeavesOnly, joined, started, weaker}
+use Rattle.ucon_disk.specs.Run.{joined, started, weaker}
 use Rattle.ucon_disk.specs.Seen.{DiskSeen}
 use Rattle.ucon_journal.specs.Found as journal
 use Rattle.ucon_journal.specs.Found.{counted, payloads_found}
-use Rattle.ucon_model.specs.Found.{Finding, Takes, fresh, not_journal, damaged, holds, first_gate, found_behind, found_in, next_gate, policy_taken}
+use Rattle.ucon_model.specs.Found.{Takes, damaged, holds, first_gate, found_behind, found_in, next_gate, policy_taken}
 use Rattle.ucon_model.specs.History.{History}
 use Rattle.ucon_model.specs.Plain.{Bytes, PlainPolicy}
 use Rattle.ucon_store.specs.Found.{Holds, IsFoundAs, IsFoundMarked, finding_of, found_by}
-use Rattle.ucon_store.specs.Kept.{Kept}
 use Rattle.ucon_store.specs.Points.{SameKind, has_points, point_places, takes_with}
-use Rattle.ucon_store.specs.Stays.{IsFoundBetween, Stays, stays_again, stays_same}
-use Rattle.ucon_store.specs.Whole.{IsFounded, found_founded, whole}
+use Rattle.ucon_store.specs.Stays.{IsFoundBetween, stays_again, stays_same}
+use Rattle.ucon_store.specs.Whole.{whole}
 use Rattle.ucon_syntax.specs.Policies.{accepted}
 use Rattle.ucon_turn.specs.Lists.{Begins, begins_refl, begins_trans}
 use Rattle.ucon_converse.specs.Answering.{Answering}

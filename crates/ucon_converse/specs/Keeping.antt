@@ -16,6 +16,7 @@ use Rattle.ucon_tell.specs.Told.{Told}
 use Rattle.ucon_turn.specs.Lists.{Begins}
 use Rattle.ucon_converse.specs.Answering.{Answering}
 use Rattle.ucon_converse.specs.Holding.{HasFirst, HasPointsOf, HasPointsPast, HoldsAll, IsFoundedAt, standing}
+use Rattle.ucon_converse.specs.Reached.{AreGivenAtBy, GivesReplyAtBy, reached_by}
 use Rattle.ucon_converse.specs.Replies.{AreGivenBy, GivesReplyBy, refusal_line}
 
 -- some trace leads to where a store begins, under its policy
@@ -61,17 +62,22 @@ pub record Keeps {D : Type 0} (seen : D → DiskSeen) (x y : Answering D) : Type
   pub made : Begins x.made y.made
   pub points : (P : PlainPolicy) (G : History) (places : List ℕ) → IsFoundedAt seen P x G places → KeepsPoints seen x y G places
 
--- from one store to the next a line was given this reply, behind each history that leads to where the first one begins
+-- From one store to the next a line was given this reply, behind each history that leads to where the first one begins, and behind each trace.
 pub record GivesReply {D : Type 0} (seen : D → DiskSeen) (x y : Answering D) (line reply : Bytes) : Type 0 where
   pub keeps : Keeps seen x y
   pub said : (P : PlainPolicy) (G : History) (places : List ℕ) → accepted x.store.policy ≡ Some P → IsFront P x.store G
       → GivesReplyBy accepted P x.store.policy (IsDated (seen x.store.disk).contents) (standing G places x) (standing G places y) line reply
+  pub said_at : (P : PlainPolicy) (T : Trace) → accepted x.store.policy ≡ Some P → IsStart P x.store.point x.store.before T
+      → GivesReplyAtBy accepted P (reached_by P T x.store) (reached_by P T y.store) line reply
 
--- From one store to the next these lines were given these replies, one after the other, behind each history that leads to where the first one begins.
+-- From one store to the next these lines were given these replies, one after the other, behind each history that leads to where the first one begins,
+-- and behind each trace.
 pub record GivesReplies {D : Type 0} (seen : D → DiskSeen) (x y : Answering D) (told : List Told) : Type 0 where
   pub keeps : Keeps seen x y
   pub said : (P : PlainPolicy) (G : History) (places : List ℕ) → accepted x.store.policy ≡ Some P → IsFront P x.store G
       → AreGivenBy accepted P x.store.policy (IsDated (seen x.store.disk).contents) (standing G places x) (standing G places y) told
+  pub said_at : (P : PlainPolicy) (T : Trace) → accepted x.store.policy ≡ Some P → IsStart P x.store.point x.store.before T
+      → AreGivenAtBy accepted P (reached_by P T x.store) (reached_by P T y.store) told
 
 -- a line that is too long is told so, whatever the store
 abbrev pub Refuses : {D : Type 0} → Answering D → Bytes → Type 0

@@ -11,9 +11,11 @@ pub mod Keeping
 pub mod Noted
 pub mod PolicyFaults
 pub mod PolicyPart
+pub mod Reached
 pub mod ReadingLines
 pub mod Readings
 pub mod Replies
 pub mod Requests
 pub mod Said
 pub mod Together
+pub mod Unasked

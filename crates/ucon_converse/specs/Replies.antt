@@ -1,5 +1,5 @@
 -- What the lines of a conversation are answered, by what a store stands for before and after.
-use Rattle.std.specs.Prelude.{◌≡◌, ◌≢◌, ◌⊎◌, ℕ, ◌-◌, ◌<◌, List, [], ◌∷◌, ◌++◌, length, Option, Some, None, IsSome, Bool, true, false, codes, Result, Ok, Err}
+use Rattle.std.specs.Prelude.{◌≡◌, ◌≢◌, ◌⊎◌, ℕ, ◌<◌, List, [], ◌∷◌, ◌++◌, length, Option, Some, None, IsSome, true, false, codes, Result, Ok, Err}
 use Rattle.std.specs.Fmt.{decimal}
 use Rattle.ucon_command.specs.Faults.{amends}
 use Rattle.ucon_command.specs.Requests.{IsAskedBy}
@@ -18,7 +18,7 @@ use Rattle.ucon_store.specs.Points.{PolicyReading, checkpoint}
 use Rattle.ucon_tell.specs.Told.{Told}
 use Rattle.ucon_converse.specs.declared.reading.Reading.{Reading}
 use Rattle.ucon_converse.specs.Due.{is_due_after}
-use Rattle.ucon_converse.specs.Exchanges.{Exchange}
+use Rattle.ucon_converse.specs.Exchanges.{AnswersAll, Exchange}
 use Rattle.ucon_converse.specs.Readings.{IsNoReading, IsReadingOf, line_told, reading_line}
 use Rattle.ucon_converse.specs.Requests.{IsNoRequestBy, IsRequestBy, TellsWhyBy}
 
@@ -183,12 +183,10 @@ GivesReplyBy reads P text old before after line reply =
 
 -- these lines were given these replies, one after the other, which led from here to there
 abbrev pub AreGivenBy : PolicyReading → PlainPolicy → Bytes → Type 0 → Standing → Standing → List Told → Type 0
-AreGivenBy reads P text old before after [] = before ≡ after
-AreGivenBy reads P text old before after (t ∷ told) =
-    (between : Standing) × GivesReplyBy reads P text old before between t.line t.reply × AreGivenBy reads P text old between after told
+AreGivenBy reads P text old = AnswersAll (GivesReplyBy reads P text old)
 
 -- a line that is too long was given this reply
-abbrev pub IsTooLong : Standing → Bytes → Type 0
+abbrev pub IsTooLong : {K : Type 0} → K → Bytes → Type 0
 IsTooLong before reply = reply ≡ refusal_line (codes "too long")
 
 -- ---- all lines

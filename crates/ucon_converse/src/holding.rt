@@ -3,8 +3,10 @@
 ghost use Rattle.std.specs.Prelude.{◌≡◌, ◌≢◌, ◌+◌, ℕ, List, length, None, Some, IsErrOf};
 ghost use Rattle.std.specs.Io.KnownBytes.{Appends};
 ghost use Rattle.ucon_flow.specs.Causes.{raised};
+ghost use Rattle.ucon_model.specs.Action.{Trace};
 ghost use Rattle.ucon_model.specs.History.{History};
 ghost use Rattle.ucon_model.specs.Plain.{PlainPolicy};
+ghost use Rattle.ucon_store.specs.Starts.{IsStart};
 ghost use Rattle.ucon_store.specs.Whole.{IsFront};
 ghost use Rattle.ucon_syntax.specs.Policies.{accepted};
 ghost use Rattle.ucon_tell.specs.Heard.{Hears};
@@ -12,6 +14,7 @@ ghost use Rattle.ucon_converse.specs.Conversation.{HasConversedBy};
 ghost use Rattle.ucon_converse.specs.Greeting.{HasGreeted};
 ghost use Rattle.ucon_converse.specs.Holding.{IsFoundedAt, standing};
 ghost use Rattle.ucon_converse.specs.Keeping.{IsDated, Keeps, moment_of};
+ghost use Rattle.ucon_converse.specs.Reached.{HasAnsweredBy, reached_by};
 
 use crate::keeper::StoreKeeper;
 use crate::lines::put_ready;
@@ -41,6 +44,10 @@ pub fn hold<E: Engine, S: Source, D: Disk, V: Voice<StoreKeeper<E, D>>>(
         → keeper.old.store.mark ≡ None
         → HasConversedBy accepted P keeper.old.store.policy (IsDated (D.seen keeper.old.store.disk).contents) 65546 result (standing G places keeper.old)
         (standing G places keeper.new) (V.seen out.old) (V.seen out.new) (D.seen keeper.new.store.disk) (IsFoundedAt D.seen P keeper.old G places)
+        (Hears result lines.old.held lines.new.held (S.seen input.old).left (S.seen input.new).left) }
+    ensures answered { (P : PlainPolicy) (T : Trace) → accepted keeper.old.store.policy ≡ Some P
+        → IsStart P keeper.old.store.point keeper.old.store.before T
+        → HasAnsweredBy accepted P 65546 result (reached_by P T keeper.old.store) (reached_by P T keeper.new.store) (V.seen out.old) (V.seen out.new)
         (Hears result lines.old.held lines.new.held (S.seen input.old).left (S.seen input.new).left) }
     ensures keeps { Keeps D.seen keeper.old keeper.new }
     ensures limit { lines.new.limit ≡ lines.old.limit }

@@ -3,7 +3,7 @@
 //! `converse` does all of it, from the policy on; `hold` is the conversation over an open store, and `StoreKeeper` is the keeper that `ucon_tell`
 //! asks for.
 //!
-//! **Always.** Each reply is the one that the definitions give where the store stands (`GivesReplyBy`).
+//! **Always.** Each reply is the one that the definitions give where the store stands (`GivesReplyBy`, and `GivesReplyAtBy` on every disk).
 //!
 //! **Free.** How lines are read and replies put together.
 //!

@@ -13,6 +13,7 @@ ghost use Rattle.ucon_converse.specs.Answering.{answering};
 ghost use Rattle.ucon_converse.specs.Due.{is_due, is_due_after, size_of};
 ghost use Rattle.ucon_converse.specs.Holding.{standing};
 ghost use Rattle.ucon_converse.specs.Keeping.{IsDated, IsLed, Keeps};
+ghost use Rattle.ucon_converse.specs.Reached.{MayStop, reached_by};
 ghost use Rattle.ucon_converse.specs.Replies.{GoesOn, IsPointed};
 ghost use Rattle.ucon_converse.specs.Together.{IsNoneDueBefore};
 
@@ -35,6 +36,7 @@ pub(crate) fn rest<E: Engine, D: Disk>(alloc: Global, store: &mut Store<E, D>, p
     ensures goes_on { (P : PlainPolicy) (G : History) (places : List ℕ) → accepted store.old.policy ≡ Some P → IsFront P store.old G
         → GoesOn (IsDated (D.seen store.old.disk).contents) P store.old.policy (standing G places (answering store.old points.old))
         (standing G places (answering store.new points.new)) }
+    ensures still { (P : PlainPolicy) (T : Trace) → MayStop (reached_by P T store.old) (reached_by P T store.new) }
     ensures keeps { Keeps D.seen (answering store.old points.old) (answering store.new points.new) }
 {
     if is_due_after(store, points.tried) {
@@ -52,6 +54,7 @@ pub(crate) fn try_point<E: Engine, D: Disk>(
     ensures pointed { (P : PlainPolicy) (G : History) (places : List ℕ) → accepted store.old.policy ≡ Some P → IsFront P store.old G
         → IsPointed (IsDated (D.seen store.old.disk).contents) P store.old.policy (standing G places (answering store.old points.old))
         (standing G places (answering store.new points.new)) result }
+    ensures still { (P : PlainPolicy) (T : Trace) → MayStop (reached_by P T store.old) (reached_by P T store.new) }
     ensures keeps { Keeps D.seen (answering store.old points.old) (answering store.new points.new) }
 {
     let said = store.point(alloc);

@@ -1,6 +1,6 @@
 //! Answers lines that are no client's request: a reading is told, and else why the line is none.
 
-ghost use Rattle.std.specs.Prelude.{◌≡◌, ◌∷◌, ◌++◌, [], codes, ℕ, List, IfOk, OnOk, None, Some};
+ghost use Rattle.std.specs.Prelude.{◌≡◌, ◌∷◌, ◌++◌, [], codes, IfOk, OnOk, None, Some};
 ghost use Rattle.ucon_command.specs.Requests.{IsAskedBy, IsOfClient, IsRefusedTo};
 ghost use Rattle.ucon_model.specs.declared.command.Caller.{Caller as Caller'};
 ghost use Rattle.ucon_model.specs.History.{History};
@@ -9,10 +9,10 @@ ghost use Rattle.ucon_model.specs.Plain.{Bytes, PlainPolicy};
 ghost use Rattle.ucon_store.specs.Whole.{IsFront};
 ghost use Rattle.ucon_syntax.specs.Policies.{accepted};
 ghost use Rattle.ucon_tell.specs.Told.{IsReplied};
-ghost use Rattle.ucon_converse.specs.Holding.{stands};
-ghost use Rattle.ucon_converse.specs.Keeping.{IsDated, IsLed};
+ghost use Rattle.ucon_converse.specs.Keeping.{IsLed};
 ghost use Rattle.ucon_converse.specs.Readings.{line_told, reading_line, text_told};
-ghost use Rattle.ucon_converse.specs.Replies.{GivesReplyBy, IsToldSo};
+ghost use Rattle.ucon_converse.specs.Replies.{IsToldSo};
+ghost use Rattle.ucon_converse.specs.Unasked.{IsToldUnasked};
 
 use crate::lines::{put_fault, put_refusal};
 use crate::reading::{Reading, read_reading};
@@ -39,9 +39,7 @@ pub(crate) fn answer_unasked<E: Engine, D: Disk>(
     requires client { IsOfClient line.now fault }
     requires refused { (caller : Caller') (text : Bytes) → IsAskedBy line.now caller text → IsRefusedTo caller text fault }
     requires unpointed { line.now ≡ codes "point" → ⊥ }
-    ensures { OnOk result (IsReplied (λ reply. (P : PlainPolicy) (G : History) (points : List ℕ) (tried : ℕ) → accepted store.now.policy ≡ Some P
-        → IsFront P store.now G → GivesReplyBy accepted P store.now.policy (IsDated (D.seen store.now.disk).contents) (stands G points tried store.now)
-        (stands G points tried store.now) line.now reply) out.old.items out.new.items) }
+    ensures { OnOk result (IsReplied (IsToldUnasked D.seen store.now line.now) out.old.items out.new.items) }
 {
     texts_lack_bytes();
     match read_reading(line) {

@@ -3,14 +3,17 @@
 ghost use Rattle.std.specs.Prelude.{◌≡◌, ◌++◌, ◌<◌, ◌≤◌, ℕ, List, length, All, IfOk, IfSome, None, OnOk, Some};
 ghost use Rattle.ucon_base.specs.Elements.{Each};
 ghost use Rattle.ucon_flow.specs.Lines.{IsBare};
+ghost use Rattle.ucon_model.specs.Action.{Trace};
 ghost use Rattle.ucon_model.specs.History.{History};
 ghost use Rattle.ucon_model.specs.Plain.{Bytes, PlainPolicy};
+ghost use Rattle.ucon_store.specs.Starts.{IsStart};
 ghost use Rattle.ucon_store.specs.Whole.{IsFront};
 ghost use Rattle.ucon_syntax.specs.Policies.{accepted};
 ghost use Rattle.ucon_tell.specs.Told.{Told, lines_of};
 ghost use Rattle.ucon_converse.specs.Answering.{answering};
 ghost use Rattle.ucon_converse.specs.Holding.{standing};
 ghost use Rattle.ucon_converse.specs.Keeping.{IsDated, IsLed, Keeps};
+ghost use Rattle.ucon_converse.specs.Reached.{StepEachAt, reached_by};
 ghost use Rattle.ucon_converse.specs.Together.{AreInFront, ArePut, IsInFront, IsNoneDueBefore, StepEach, all_stopped, answered_in, broken_off, is_answered, replied};
 
 use crate::fronts::{first_newline, line_in_front};
@@ -123,6 +126,8 @@ pub(crate) fn take_together<E: Engine, D: Disk>(
     ensures steps { (P : PlainPolicy) (G : History) (places : List ℕ) → accepted store.old.policy ≡ Some P → IsFront P store.old G
         → StepEach (IsDated (D.seen store.old.disk).contents) P store.old.policy (standing G places (answering store.old points.old))
         (answered_in lines.now result) (standing G places (answering store.new points.new)) }
+    ensures steps_at { (P : PlainPolicy) (T : Trace) → accepted store.old.policy ≡ Some P → IsStart P store.old.point store.old.before T
+        → StepEachAt P (reached_by P T store.old) (answered_in lines.now result) (reached_by P T store.new) }
     ensures some { 0 < length (answered_in lines.now result) }
     ensures within { length result.placed.items ≤ result.taken }
     ensures taken { result.taken ≤ length lines.now }

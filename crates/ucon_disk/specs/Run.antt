@@ -1,5 +1,5 @@
 -- What a crash may leave over several calls.
-use Rattle.std.proofs.Common.{◌≡◌, ◌⊎◌, inl, inr, ⊎_elim, ℕ, ◌≤◌, List, Option, Some, arith}
+use Rattle.std.proofs.Common.{◌≡◌, ◌⊎◌, inl, inr, ⊎_elim, ℕ, ◌≤◌, List, Option, Some, arith, subst, sym}
 use Rattle.ucon_disk.specs.Disk.{Elapses}
 use Rattle.ucon_disk.specs.Seen.{DiskSeen}
 
@@ -18,6 +18,11 @@ pub record LeavesOnly (old new : DiskSeen) (P : List ℕ → Type 0) : Type 0 wh
 -- If all that is read was on the disk, a crash at any moment since old leaves that file after a step.
 pub record LeavesAfter (old new : DiskSeen) (step : List ℕ → List ℕ → Type 0) : Type 0 where
   pub each : (file : List ℕ) → IsAtRest old file → LeavesOnly old new (step file)
+
+-- A crash at any moment since old leaves one of the files that it could leave at old, or what a step makes of all that was read then. So it is also
+-- of a disk that isn't at rest.
+pub record LeavesFrom (old new : DiskSeen) (step : List ℕ → List ℕ → Type 0) : Type 0 where
+  pub each : (file : List ℕ) → old.contents ≡ Some file → LeavesOnly old new (λ c. old.images c ⊎ step file c)
 
 -- before the first call
 pub started : (old : DiskSeen) (P : List ℕ → Type 0) → ((c : List ℕ) → old.images_since old.moment c → P c) → LeavesOnly old old P
@@ -45,4 +50,21 @@ weaker old new P Q then run = record {
   later = run.later;
   each = λ c since. then c (run.each c since);
   before = λ t c le since. ⊎_elim inl (λ p. inr (then c p)) (run.before t c le since);
+}
+
+-- what is so from any disk is so after one at rest, if nothing need be done
+pub from_rest : (old new : DiskSeen) (step : List ℕ → List ℕ → Type 0) → ((file : List ℕ) → step file file) → LeavesFrom old new step
+    → LeavesAfter old new step
+from_rest old new step stays run = record {
+  each = λ file rest.
+      weaker old new (λ c. old.images c ⊎ step file c) (step file)
+      (λ c. ⊎_elim (λ image. subst (λ (x : List ℕ). step file x) (sym (rest.only c image)) (stays file)) (λ p. p)) (run.each file rest.told);
+}
+
+-- a step more
+pub then_from : (old new : DiskSeen) (step next : List ℕ → List ℕ → Type 0) → ((file c : List ℕ) → step file c → next file c) → LeavesFrom old new step
+    → LeavesFrom old new next
+then_from old new step next then run = record {
+  each = λ file told.
+      weaker old new (λ c. old.images c ⊎ step file c) (λ c. old.images c ⊎ next file c) (λ c. ⊎_elim inl (λ p. inr (then file c p))) (run.each file told);
 }

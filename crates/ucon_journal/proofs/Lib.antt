@@ -1,5 +1,6 @@
 mod Added
 mod Batches
+mod Beginning
 mod Files
 mod Leading
 mod Openings

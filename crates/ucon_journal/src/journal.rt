@@ -7,7 +7,7 @@ ghost use Rattle.std.specs.List.{sum_by};
 ghost use Rattle.std.specs.Option.{option_map};
 ghost use Rattle.ucon_disk.specs.Causes.{HasCause, raised};
 ghost use Rattle.ucon_disk.specs.Disk.{Only, SameImages};
-ghost use Rattle.ucon_disk.specs.Run.{LeavesOnly, LeavesAfter};
+ghost use Rattle.ucon_disk.specs.Run.{LeavesOnly, LeavesAfter, LeavesFrom};
 ghost use Rattle.ucon_journal.specs.JournalBytes.{IsVersion, AreShort, batch_bytes, records, journal_bytes};
 ghost use Rattle.ucon_journal.specs.Found.{found, version_told, counted, payloads_from, counts, length_told, LeadTo, NextIsLonger};
 ghost use Rattle.ucon_journal.specs.Found as finding;
@@ -63,12 +63,14 @@ impl<D: Disk> Journal<D> {
         ensures all { IfOk result (λ j. IfSome (D.seen (disk_of j)).contents (λ file. payloads_from file 8 ≡ counted file)) }
         ensures only { IfOk result (λ j. Only (D.seen (disk_of j)).contents (D.seen (disk_of j)).images) }
         ensures images { IfOk result (λ j. LeavesAfter (D.seen disk) (D.seen (disk_of j)) Untouched) }
+        ensures since { IfOk result (λ j. LeavesFrom (D.seen disk) (D.seen (disk_of j)) Untouched) }
         ensures unfailed { IfOk result (λ j. (D.seen (disk_of j)).faults ≡ (D.seen disk).faults) }
 
         ensures is_journal { IfOk result (λ _. IfSome (D.seen disk).contents (λ file. found file ≢ finding.NotJournal)) }
         ensures not_journal { IfErr result (λ e. e.1 ≡ OpenFault.NotJournal
             → IfSome (D.seen disk).contents (λ file. (found file ≡ finding.NotJournal) × ((D.seen e.0).contents ≡ Some file))) }
         ensures images_err { IfErr result (λ e. LeavesAfter (D.seen disk) (D.seen e.0) Untouched) }
+        ensures since_err { IfErr result (λ e. LeavesFrom (D.seen disk) (D.seen e.0) Untouched) }
         ensures failed { IfErr result (λ e. e.1 ≡ OpenFault.DiskFault → (D.seen e.0).faults ≡ raised (D.seen disk).faults) }
         ensures unfailed_err { IfErr result (λ e. e.1 ≢ OpenFault.DiskFault → (D.seen e.0).faults ≡ (D.seen disk).faults) }
     {

@@ -4,7 +4,7 @@ ghost use Rattle.std.specs.Prelude.{◌≡◌, ◌≢◌, ◌<◌, ◌≤◌, �
 ghost use Rattle.std.specs.Option.{option_map};
 ghost use Rattle.ucon_disk.specs.Causes.{raised};
 ghost use Rattle.ucon_disk.specs.Disk.{Only};
-ghost use Rattle.ucon_disk.specs.Run.{LeavesAfter};
+ghost use Rattle.ucon_disk.specs.Run.{LeavesFrom};
 ghost use Rattle.ucon_journal.specs.JournalBytes.{IsVersion, newest};
 ghost use Rattle.ucon_journal.specs.Found.{found, version_told};
 ghost use Rattle.ucon_journal.specs.Found as finding;
@@ -39,7 +39,7 @@ pub(crate) fn begin<D: Disk>(disk: &mut D) -> Result<Opened, OpenFault>
     ensures is_journal { OnOk result (IfSome (D.seen disk.old).contents (λ file. found file ≢ finding.NotJournal)) }
     ensures not_journal { IfErr result (λ e. e ≡ OpenFault.NotJournal
         → IfSome (D.seen disk.old).contents (λ file. (found file ≡ finding.NotJournal) × ((D.seen disk.new).contents ≡ Some file))) }
-    ensures images { LeavesAfter (D.seen disk.old) (D.seen disk.new) Untouched }
+    ensures since { LeavesFrom (D.seen disk.old) (D.seen disk.new) Untouched }
     ensures failed { IsErrOf result OpenFault.DiskFault → (D.seen disk.new).faults ≡ raised (D.seen disk.old).faults }
     ensures unfailed { result ≢ Err OpenFault.DiskFault → (D.seen disk.new).faults ≡ (D.seen disk.old).faults }
 {

@@ -1,6 +1,6 @@
 -- From the bytes as they were found to those that opening the journal made.
-use Rattle.std.proofs.Common.{◌≡◌, ◌≢◌, ⊎_elim, ℕ, List, [], length, Option, Some, None, refl, sym, ap, ◌∙◌, subst, false, true}
-use Rattle.std.specs.Prelude.{nat_le, IfSome}
+use Rattle.std.proofs.Common.{◌≡◌, ◌≢◌, ⊎_elim, ℕ, ◌+◌, List, [], length, Option, Some, None, refl, sym, ap, ◌∙◌, subst, false, true}
+use Rattle.std.specs.Prelude.{nat_le, is_some, if◌then◌else◌, IfSome}
 use Rattle.std.specs.Option.{option_map}
 use Rattle.ucon_model.specs.Plain.{Bytes}
 use Rattle.ucon_model.specs.Found.{Finding, not_journal}
@@ -8,6 +8,7 @@ use Rattle.ucon_disk.specs.Causes.{raised}
 use Rattle.ucon_journal.specs.declared.fault.OpenFault.{OpenFault}
 use Rattle.ucon_journal.specs.declared.fault.OpenFault.TheVariants as opening
 use Rattle.ucon_journal.specs.Found as journal
+use Rattle.ucon_journal.specs.JournalBytes.{records}
 use Rattle.ucon_journal.specs.Opened.{opened as opened_as}
 use Rattle.ucon_store.specs.declared.fault.StoreFault.{StoreFault}
 use Rattle.ucon_store.specs.declared.fault.StoreFault.TheVariants.{NotJournal, Damaged, OtherPolicy, DiskFault, NoMemory}
@@ -108,3 +109,26 @@ pub opening_reason : (A : Bytes → Type 0) (fault : OpenFault) (text : Bytes) (
     → HasReason (of_open fault) text o before now
 opening_reason A opening.NotJournal text o before now none failed unfailed = (no_journal_told A o (none refl), unfailed (λ e. absurd (cc e)))
 opening_reason A opening.DiskFault text o before now none failed unfailed = failed refl
+
+-- ---- the bytes, where none is opened
+
+foreign_opened : (file : Bytes) → journal.found file ≡ journal.NotJournal → opened_as file ≡ file
+foreign_opened file is = ⊎_elim
+    (λ (short : nat_le (length file) 9 ≡ true).
+    let fresh : journal.found file ≡ journal.Fresh =
+    ap (λ b. if b then journal.Fresh else if is_some (journal.version_told file) then journal.Holds (journal.payloads_from file 8) (8 + length (records (journal.payloads_from file 8))) else journal.NotJournal) short in
+    let no : journal.Fresh ≡ journal.NotJournal = sym fresh ∙ is in absurd (cc no))
+    (λ (long : nat_le (length file) 9 ≡ false). opened_long file long)
+    (true_or_false (nat_le (length file) 9))
+
+pub opening_bytes : (fault : OpenFault) (o n : Option Bytes)
+    → (fault ≡ opening.NotJournal → IfSome o (λ file. (journal.found file ≡ journal.NotJournal) × (n ≡ Some file)))
+    → of_open fault ≢ DiskFault → IfSome o (λ file. n ≡ Some (opened_as file))
+opening_bytes opening.NotJournal None n told not = tt
+opening_bytes opening.NotJournal (Some file) n told not =
+    let h = told refl in h.1 ∙ ap Some (sym (foreign_opened file h.0))
+opening_bytes opening.DiskFault o n told not = absurd (not refl)
+
+pub same_bytes : (o m n : Option Bytes) → m ≡ option_map opened_as o → n ≡ m → IfSome o (λ file. n ≡ Some (opened_as file))
+same_bytes None m n is same = tt
+same_bytes (Some file) m n is same = same ∙ is

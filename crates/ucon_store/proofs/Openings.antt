@@ -1,5 +1,5 @@
 -- What opening leaves in a file, and what its records say.
-use Rattle.std.proofs.Common.{◌≡◌, ◌≢◌, ℕ, ◌+◌, ◌≤◌, List, [], ◌∷◌, ◌++◌, length, Bool, Option, Some, None, refl, sym, ap, ◌∙◌, subst, false, true, arith}
+use Rattle.std.proofs.Common.{◌≡◌, ◌≢◌, ◌⊎◌, ⊎_elim, inl, inr, ℕ, ◌+◌, ◌≤◌, List, [], ◌∷◌, ◌++◌, length, Bool, Option, Some, None, refl, sym, ap, ◌∙◌, subst, false, true, arith}
 use Rattle.std.specs.Prelude.{nat_lt, option_map, unwrap_or, if◌then◌else◌, IfSome, MatchBool}
 use Rattle.std.specs.Str.{bytes_eq}
 use Rattle.ucon_model.specs.Plain.{Bytes, PlainPolicy}
@@ -12,6 +12,7 @@ use Rattle.ucon_journal.specs.JournalBytes.{magic}
 use Rattle.ucon_journal.specs.Opened.{StillHolds}
 use Rattle.ucon_syntax.specs.Policies.{accepted}
 use Rattle.ucon_store.specs.Found.{finding_of, found, Holds, Tells, IsFoundAs, found_by}
+use Rattle.ucon_store.specs.Keeping.{IsSameKind}
 use Rattle.ucon_store.specs.Opened as seeing
 use Rattle.ucon_store.specs.Opened.{Seen, Sees, SeesIn, seen_after}
 use Rattle.ucon_store.specs.Opening.{IsForeign, Opens}
@@ -70,11 +71,17 @@ pub not_foreign : (text file : Bytes) → journal.counted file ≡ [] → found 
 not_foreign text file none is seen sees foreign =
     let no : IsForeign seeing.fresh text = subst (λ (s : Seen). IsForeign s text) (sees_fresh file seen none is sees) foreign in no
 
-pub same_opens : (text file c : Bytes) → found c ≡ found file → ((seen : Seen) → Sees file seen → IsForeign seen text → c ≡ file) → Opens text file c
-same_opens text file c is untouched = record { same = λ H h. subst (λ (f : Finding). Tells f text H) (sym is) h; untouched = untouched }
+pub same_opens : (text file c : Bytes) → found c ≡ found file → ((seen : Seen) → Sees file seen → IsForeign seen text → c ≡ file)
+    → journal.counted c ≡ journal.counted file → IsSameKind file c → Opens text file c
+same_opens text file c is untouched records kind =
+    record { same = λ H h. subst (λ (f : Finding). Tells f text H) (sym is) h; untouched = untouched; records = inl records; kind = kind }
 
 pub itself_opens : (text file c : Bytes) → c ≡ file → Opens text file c
-itself_opens text file c is = same_opens text file c (ap found is) (λ _ _ _. is)
+itself_opens text file c is = same_opens text file c (ap found is) (λ _ _ _. is) (ap journal.counted is) (λ long. ap has_points is)
+
+-- a file with the same magic is of the same kind
+pub kind_held : (file : Bytes) (held : List Bytes) (c : Bytes) → StillHolds file held c → has_points c ≡ has_points file
+kind_held file held c still = ap (λ (front : Bytes). bytes_eq front (magic 2)) still.magic
 
 -- a journal is mended in which nothing foreign is seen
 pub found_mended : (file c : Bytes) → journal.found file ≢ journal.NotJournal → StillHolds file (journal.counted file) c → found c ≡ found file
@@ -86,12 +93,16 @@ found_mended file c is still =
 pub mended_opens : (text file c : Bytes) → journal.found file ≢ journal.NotJournal → ((seen : Seen) → Sees file seen → IsForeign seen text → ⊥)
     → StillHolds file (journal.counted file) c → Opens text file c
 mended_opens text file c is home still = same_opens text file c (found_mended file c is still) (λ seen sees foreign. absurd (home seen sees foreign))
+    still.payloads (λ long. kind_held file (journal.counted file) c still)
 
 -- a journal without a record is mended, or gets record 0
-pub made_opens : (text file c : Bytes) → journal.counted file ≡ [] → found file ≡ fresh → IsFoundAs text c [] → Opens text file c
-made_opens text file c none is found_so = record {
+pub made_opens : (text file c : Bytes) → journal.counted file ≡ [] → found file ≡ fresh → IsFoundAs text c []
+    → (journal.counted c ≡ []) ⊎ (journal.counted c ≡ text ∷ []) → has_points c ≡ has_points file → Opens text file c
+made_opens text file c none is found_so records kind = record {
   same = λ G h. let none : Tells fresh text G = subst (λ (f : Finding). Tells f text G) is h in subst (IsFoundAs text c) (sym none) found_so;
   untouched = λ seen sees foreign. absurd (not_foreign text file none is seen sees foreign);
+  records = ⊎_elim (λ nothing. inl (nothing ∙ sym none)) (λ made. inr (none, made)) records;
+  kind = λ long. kind;
 }
 
 pub fresh_found : (text c : Bytes) → found c ≡ fresh → IsFoundAs text c []

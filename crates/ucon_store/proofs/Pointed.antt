@@ -10,7 +10,7 @@ use Rattle.ucon_model.specs.Payload.{most_payload}
 use Rattle.ucon_model.specs.Plain.{Bytes, PlainPolicy}
 use Rattle.ucon_disk.specs.Causes.{raised}
 use Rattle.ucon_disk.specs.Disk.{Only}
-use Rattle.ucon_disk.specs.Run.{LeavesOnly, LeavesAfter, started, weaker}
+use Rattle.ucon_disk.specs.Run.{IsAtRest, LeavesOnly, LeavesAfter, started, weaker}
 use Rattle.ucon_journal.specs.declared.journal.Journal.{Journal}
 use Rattle.ucon_journal.specs.Journal.{disk_of, version_of, told_payloads, IsClosed}
 use Rattle.ucon_journal.specs.Found as journalled
@@ -21,6 +21,7 @@ use Rattle.ucon_turn.specs.Lists.{begins_refl}
 use Rattle.ucon_syntax.specs.Policies.{accepted}
 use Rattle.ucon_store.specs.Found.{Holds, IsFoundMarked, found_as}
 use Rattle.ucon_store.specs.declared.beginning.Beginning.{Beginning}
+use Rattle.ucon_store.specs.Keeping.{GrowsFrom}
 use Rattle.ucon_store.specs.Kept.{Kept, IsKept, payload_in}
 use Rattle.ucon_store.specs.declared.fault.PointFault.{PointFault}
 use Rattle.ucon_store.specs.declared.fault.PointFault.TheVariants.{DiskFault, Stopped, OldJournal, TooLarge, NoMemory}
@@ -34,7 +35,7 @@ use Rattle.ucon_store.proofs.Finding.{Together, counted_hold, holds_more, holds_
 use Rattle.ucon_store.proofs.Versions.{closed_kind, takes_as}
 use Rattle.ucon_store.proofs.Places.{place_added}
 use Rattle.ucon_store.proofs.SamePlaces.{places_same}
-use Rattle.ucon_store.proofs.Recorded.{HoldsAtRest, IsAppended, at_rest_as, counted_then, holds_now, kind_now, kind_then, rest_with, same_kind, stays_marked, told_file, with_mark}
+use Rattle.ucon_store.proofs.Recorded.{HoldsAtRest, IsAppended, at_rest_as, counted_then, holds_now, kind_now, kind_then, leaves_grown, rest_with, rests_grown, same_kind, stays_marked, told_file, with_mark}
 use Rattle.ucon_store.proofs.Stepped.{holds_founded, parts}
 use Rattle.ucon_store.proofs.Stepping.{stands_as, text_append, trace_append}
 use Rattle.ucon_disk.specs.Seen.{DiskSeen}
@@ -274,6 +275,7 @@ module _ {D : Type 0} {seen : D → DiskSeen} {x : Kept D} {k : Journal D} {payl
         let file = told_file (seen x.disk).contents told in
         weaker (seen x.disk) (seen new) (IsFoundPointed x.policy (G ++ x.entries) (point_places file.0)) (IsFoundMarked x.policy (G ++ x.entries) (Some []))
         (λ c h. inl h.0) (leaves_point run P G file.0 f file.1))
+        (subst (λ (d : D). LeavesAfter (seen d) (seen new) GrowsFrom) ready.same (leaves_grown seen (payload ∷ []) (disk_of k) new run))
 
     module _ {next : Journal D} (appended : IsAppended seen k next (payload ∷ [])) where
       -- where the checkpoints stand then
@@ -321,4 +323,7 @@ module _ {D : Type 0} {seen : D → DiskSeen} {x : Kept D} {k : Journal D} {payl
                 (leaves_point run P G file.0 f file.1);
             founded = λ P G f _. founded_point refl P G f;
             left_now = λ P G f. left_founded seen P (on_disk x (disk_of next)) G (founded_point refl P G f);
+            grows = subst (λ (d : D). LeavesAfter (seen d) (seen (disk_of next)) GrowsFrom) ready.same
+                (leaves_grown seen (payload ∷ []) (disk_of k) (disk_of next) run);
+            rests = λ _ file rest. rests_grown seen (payload ∷ []) k next ready.closed appended file (subst (λ (d : D). IsAtRest (seen d) file) (sym ready.same) rest);
           })

@@ -21,7 +21,8 @@ use Rattle.ucon_store.specs.Events.{events, events_of, number_of}
 use Rattle.ucon_syntax.specs.Policies.{accepted}
 use Rattle.ucon_store.specs.Found.{Holds, IsFoundAs, IsFoundMarked, IsFoundWith, found_as, found_with}
 use Rattle.ucon_store.specs.Kept.{Kept}
-use Rattle.ucon_store.specs.Stays.{Stays, IsFoundBetween}
+use Rattle.ucon_store.specs.Keeping.{GrowsFrom}
+use Rattle.ucon_store.specs.Stays.{IsFoundBetween, RestsGrown, Stays}
 use Rattle.ucon_store.specs.Whole.{IsFounded, found_founded, left_founded, whole}
 use Rattle.ucon_store.specs.Points.{has_points, points_of}
 use Rattle.ucon_store.proofs.Finding.{Together, holds_same, holds_more, takes_of}
@@ -130,6 +131,47 @@ module _ {D : Type 0} {seen : D → DiskSeen} {journal : Journal D} {text : Byte
             holds_more together text P H later payloads file c (takes file was) (holds_now file was) (kind_then file c was now)
             (counted_then file c was now)
 
+-- ---- the records of before, whatever they are found as
+
+-- the payloads of before with others behind
+pub more_grows : (payloads : List Bytes) (file c : Bytes) → StillHolds file (journalled.counted file ++ payloads) c → GrowsFrom file c
+more_grows payloads file c more = record { kind = same_kind file c more.magic; records = (payloads, sym more.payloads) }
+
+pub same_grows : (file c : Bytes) → StillHolds file (journalled.counted file) c → GrowsFrom file c
+same_grows file c same = record {
+  kind = same_kind file c same.magic;
+  records = subst (Begins (journalled.counted file)) (sym same.payloads) (begins_refl (journalled.counted file));
+}
+
+module _ {D : Type 0} (seen : D → DiskSeen) (payloads : List Bytes) where
+  -- while records are written
+  pub leaves_grown : (old new : D) → LeavesAfter (seen old) (seen new) (PerhapsAllAdded payloads) → LeavesAfter (seen old) (seen new) GrowsFrom
+  leaves_grown old new run = record {
+    each = λ file rest. weaker (seen old) (seen new) (PerhapsAllAdded payloads file) (GrowsFrom file)
+        (λ c. ⊎_elim (same_grows file c) (more_grows payloads file c)) (run.each file rest);
+  }
+
+  -- and once they are there
+  pub rests_grown : (journal next : Journal D) → IsClosed seen journal → IsAppended seen journal next payloads
+      → (file : Bytes) → IsAtRest (seen (disk_of journal)) file → RestsGrown seen (disk_of next) file
+  rests_grown journal next closed appended file rest =
+      let o = (seen (disk_of journal)).contents in
+      let n = (seen (disk_of next)).contents in
+      let there = told_file n (appended.tells ∙ ap is_some rest.told) in
+      let counts : journalled.counted there.0 ≡ journalled.counted file ++ payloads =
+      sym (ap told_payloads there.1)
+      ∙ (some_told (λ _. told_payloads n ≡ told_payloads o ++ payloads) o file rest.told appended.added
+      ∙ ap (λ (x : Option Bytes). told_payloads x ++ payloads) rest.told) in record {
+        now = there.0;
+        rest = record { told = there.1; only = subst (λ (x : Option Bytes). Only x (seen (disk_of next)).images) there.1 appended.only };
+        grown = record {
+          kind = some_told (λ f. has_points f ≡ points_of (version_of next)) n there.0 there.1 (closed_kind seen next appended.closed)
+              ∙ (ap points_of appended.version
+              ∙ sym (some_told (λ f. has_points f ≡ points_of (version_of journal)) o file rest.told (closed_kind seen journal closed)));
+          records = (payloads, sym counts);
+        };
+      }
+
 -- ---- what becomes of a store
 
 -- the store with these entries more, on this disk
@@ -169,8 +211,9 @@ module _ {D : Type 0} (seen : D → DiskSeen) (x : Kept D) (es : History) where
       → ((P : PlainPolicy) (G : History) → IsFounded seen P x G → y.mark ≡ None → IsFounded seen P y G)
       → ((P : PlainPolicy) (G : History) → IsFounded seen P x G → IsSome (seen y.disk).contents
       → (c : Bytes) → (seen y.disk).images c → IsFoundMarked y.policy (G ++ y.entries) y.mark c)
+      → LeavesAfter (seen x.disk) (seen y.disk) GrowsFrom → (y.mark ≡ None → (file : Bytes) → IsAtRest (seen x.disk) file → RestsGrown seen y.disk file)
       → Stays seen x y
-  goes y none policy point before opening entries unfailed failed tells found run founded now = record {
+  goes y none policy point before opening entries unfailed failed tells found run founded now grows rests = record {
     policy = policy;
     point = point;
     before = before;
@@ -183,18 +226,22 @@ module _ {D : Type 0} (seen : D → DiskSeen) (x : Kept D) (es : History) where
     left = λ P G f told. weaker (seen x.disk) (seen y.disk) (IsFoundMarked x.policy (G ++ x.entries) (Some es)) _ (λ c h. inr (found G c h)) (run P G f told);
     founded = founded;
     left_now = now;
+    grows = grows;
+    rests = rests;
   }
 
   -- a store stays with these entries more
   pub stays_more : {y : Kept D} (new : D) → y ≡ with_entries x es new → x.mark ≡ None → (seen new).faults ≡ (seen x.disk).faults
       → is_some (seen new).contents ≡ is_some (seen x.disk).contents
       → LeavesWith new → ((P : PlainPolicy) (G : History) → IsFounded seen P x G → IsFounded seen P (with_entries x es new) G)
+      → LeavesAfter (seen x.disk) (seen new) GrowsFrom → ((file : Bytes) → IsAtRest (seen x.disk) file → RestsGrown seen new file)
       → Stays seen x y
-  stays_more new is none unfailed tells run founded =
+  stays_more new is none unfailed tells run founded grows rests =
       subst (Stays seen x) (sym is)
       (goes (with_entries x es new) none refl refl refl refl (es, refl) (λ _. unfailed)
       (λ m some. let no : None ≡ Some m = some in absurd (cc no)) tells found run
-      (λ P G f _. founded P G f) (λ P G f. left_founded seen P (with_entries x es new) G (founded P G f)))
+      (λ P G f _. founded P G f) (λ P G f. left_founded seen P (with_entries x es new) G (founded P G f))
+      grows (λ _. rests))
     where
       found : (G : History) (c : Bytes) → IsFoundMarked x.policy (G ++ x.entries) (Some es) c
           → IsFoundBetween (whole G x) (whole G (with_entries x es new)) c
@@ -222,13 +269,14 @@ module _ {D : Type 0} (seen : D → DiskSeen) (x : Kept D) (es : History) where
   pub stays_marked : {y : Kept D} (new : D) → y ≡ with_mark x es new → x.mark ≡ None → (seen new).faults ≡ raised (seen x.disk).faults
       → is_some (seen new).contents ≡ is_some (seen x.disk).contents
       → ((d : D) (t : ℕ) (c : List ℕ) → t ≤ (seen d).moment → (seen d).images c → (seen d).images_since t c) → LeavesWith new
-      → Stays seen x y
-  stays_marked new is none failed tells counts run =
+      → LeavesAfter (seen x.disk) (seen new) GrowsFrom → Stays seen x y
+  stays_marked new is none failed tells counts run grows =
       subst (Stays seen x) (sym is)
       (goes (with_mark x es new) none refl refl refl refl (begins_refl x.entries)
       (λ alike. absurd (let bad : true ≡ false = alike ∙ ap is_some none in cc bad)) (λ _ _. failed) tells found run
       (λ P G f unmarked. absurd (let no : None ≡ Some es = sym unmarked in cc no))
-      (λ P G f told c image. let left = run P G f (sym tells ∙ told) in left.each c (counts new (seen x.disk).moment c left.later image)))
+      (λ P G f told c image. let left = run P G f (sym tells ∙ told) in left.each c (counts new (seen x.disk).moment c left.later image))
+      grows (λ unmarked. absurd (let no : None ≡ Some es = sym unmarked in cc no)))
     where
       found : (G : History) (c : Bytes) → IsFoundMarked x.policy (G ++ x.entries) (Some es) c
           → IsFoundBetween (whole G x) (whole G (with_mark x es new)) c

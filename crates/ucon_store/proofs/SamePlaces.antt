@@ -1,5 +1,5 @@
 -- What leaves the checkpoints of a file where they stood.
-use Rattle.std.proofs.Common.{◌≡◌, ◌≢◌, ⊎_elim, ℕ, ◌+◌, ◌<◌, Bool, true, false, List, [], ◌∷◌, ◌++◌, length, Option, Some, None, refl, sym, ap, ◌∙◌, arith}
+use Rattle.std.proofs.Common.{◌≡◌, ◌≢◌, ◌⊎◌, ⊎_elim, inl, inr, subst, ℕ, ◌+◌, ◌<◌, Bool, true, false, List, [], ◌∷◌, ◌++◌, length, Option, Some, None, refl, sym, ap, ◌∙◌, arith}
 use Rattle.std.specs.Prelude.{◌↔◌, is_some, nat_le, if◌then◌else◌, IfSome}
 use Rattle.std.specs.Option.{option_map}
 use Rattle.ucon_model.specs.Plain.{Bytes}
@@ -8,7 +8,8 @@ use Rattle.ucon_journal.specs.Journal.{told_payloads}
 use Rattle.ucon_journal.specs.JournalBytes.{records}
 use Rattle.ucon_journal.specs.Opened.{opened}
 use Rattle.ucon_store.specs.Points.{IsOld, SameKind, SamePlaces, has_points, places_in, point_places}
-use Rattle.ucon_store.proofs.Runs.{opened_long, opened_short, true_or_false}
+use Rattle.ucon_store.specs.Keeping.{SameRecords}
+use Rattle.ucon_store.proofs.Runs.{counted_opened, opened_long, opened_short, true_or_false}
 
 no_places : (b : Bool) (l : List Bytes) → places_in l ≡ [] → (if b then places_in l else []) ≡ []
 no_places true l none = none
@@ -39,6 +40,31 @@ made_places (Some file) None (Some c) text shut empty is same added = absurd (cc
 made_places (Some file) (Some mended) (Some c) text shut empty is same added =
     let all : journal.counted c ≡ text ∷ [] = added ∙ ap (λ (l : List Bytes). l ++ text ∷ []) (same ∙ empty.0) in
     no_places (has_points c) (journal.counted c) (ap places_in all) ∙ sym (no_places (has_points file) (journal.counted file) (ap places_in empty.0))
+
+-- ---- the records of before
+
+pub same_records : (text : Bytes) (o n : Option Bytes) → told_payloads n ≡ told_payloads o → SameRecords text o n
+same_records text None n same = tt
+same_records text (Some file) None same = tt
+same_records text (Some file) (Some c) same = inl same
+
+pub made_records : (o m n : Option Bytes) (text : Bytes) (shut : Bytes → Bytes) → IfSome o (λ file. (journal.counted file ≡ []) × (journal.found file ≢ journal.NotJournal))
+    → m ≡ option_map shut o → told_payloads m ≡ told_payloads o → IfSome m (λ file. told_payloads n ≡ told_payloads m ++ text ∷ []) → SameRecords text o n
+made_records None m n text shut empty is same added = tt
+made_records (Some file) m None text shut empty is same added = tt
+made_records (Some file) None (Some c) text shut empty is same added = absurd (cc is)
+made_records (Some file) (Some mended) (Some c) text shut empty is same added =
+    inr (empty.0, added ∙ ap (λ (l : List Bytes). l ++ text ∷ []) (same ∙ empty.0))
+
+pub opened_records : (text : Bytes) (o m n : Option Bytes) → m ≡ option_map opened o → SameRecords text m n → SameRecords text o n
+opened_records text None m n is h = tt
+opened_records text (Some file) m None is h = tt
+opened_records text (Some file) None (Some c) is h = absurd (cc is)
+opened_records text (Some file) (Some begun) (Some c) is h =
+    let same : begun ≡ opened file = cc is in
+    subst (λ (l : List Bytes). (journal.counted c ≡ l) ⊎ ((l ≡ []) × (journal.counted c ≡ text ∷ []))) (ap journal.counted same ∙ counted_opened file) h
+
+-- ---- where the checkpoints stand
 
 -- what opening the journal makes of the bytes
 short_places : (file : Bytes) → nat_le (length file) 9 ≡ true → point_places file ≡ []

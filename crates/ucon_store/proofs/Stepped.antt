@@ -11,7 +11,7 @@ use Rattle.ucon_model.specs.Payload.{told, payload_spelling}
 use Rattle.ucon_model.specs.Plain.{Bytes, PlainPolicy, PlainReply}
 use Rattle.ucon_disk.specs.Causes.{raised}
 use Rattle.ucon_disk.specs.Disk.{Only}
-use Rattle.ucon_disk.specs.Run.{LeavesAfter, LeavesOnly}
+use Rattle.ucon_disk.specs.Run.{IsAtRest, LeavesAfter, LeavesOnly}
 use Rattle.ucon_journal.specs.declared.journal.Journal.{Journal}
 use Rattle.ucon_journal.specs.Found.{counted}
 use Rattle.ucon_journal.specs.Journal.{disk_of, told_payloads, IsClosed}
@@ -20,6 +20,7 @@ use Rattle.ucon_syntax.specs.Policies.{accepted}
 use Rattle.ucon_store.specs.declared.beginning.Beginning.{Beginning}
 use Rattle.ucon_store.specs.Found.{Holds, IsFoundMarked}
 use Rattle.ucon_store.specs.Batched.{payloads_after}
+use Rattle.ucon_store.specs.Keeping.{GrowsFrom}
 use Rattle.ucon_store.specs.Kept.{Kept, IsKept, payload_in}
 use Rattle.ucon_store.specs.Points.{has_points}
 use Rattle.ucon_store.specs.Starts.{IsStart}
@@ -27,7 +28,7 @@ use Rattle.ucon_store.specs.Stays.{Stays}
 use Rattle.ucon_store.specs.Whole.{IsFounded}
 use Rattle.ucon_store.proofs.Finding.{Together, takes_of}
 use Rattle.ucon_store.proofs.Adding.{Adds, adds_payload, added_payload}
-use Rattle.ucon_store.proofs.Recorded.{HoldsAtRest, IsAppended, LeavesWith, rest_with, run_perhaps, stays_marked, stays_more, with_entries, with_mark}
+use Rattle.ucon_store.proofs.Recorded.{HoldsAtRest, IsAppended, LeavesWith, leaves_grown, rest_with, rests_grown, run_perhaps, stays_marked, stays_more, with_entries, with_mark}
 use Rattle.ucon_store.proofs.Stepping.{stands_as, trace_append}
 use Rattle.ucon_store.proofs.Versions.{steps_taken}
 use Rattle.ucon_disk.specs.Seen.{DiskSeen}
@@ -140,6 +141,8 @@ module _ {D : Type 0} {seen : D → DiskSeen} {x : Kept D} {k : Journal D} {es :
   stays_ready {next} run appended unfailed is =
       stays_more seen x es (disk_of next) is ready.unmarked (unfailed ∙ ap (λ d. (seen d).faults) ready.same)
       (appended.tells ∙ ap (λ (d : D). is_some (seen d).contents) ready.same) (leaves_ready run) (founded_ready appended refl)
+      (subst (λ (d : D). LeavesAfter (seen d) (seen (disk_of next)) GrowsFrom) ready.same (leaves_grown seen payloads (disk_of k) (disk_of next) run))
+      (λ file rest. rests_grown seen payloads k next ready.closed appended file (subst (λ (d : D). IsAtRest (seen d) file) (sym ready.same) rest))
 
   -- as it does at Err, with the entries as its mark
   pub stays_failed : {new : D} → LeavesAfter (seen (disk_of k)) (seen new) (PerhapsAllAdded payloads)
@@ -149,6 +152,7 @@ module _ {D : Type 0} {seen : D → DiskSeen} {x : Kept D} {k : Journal D} {es :
   stays_failed {new} run tells failed counts is =
       stays_marked seen x es new is ready.unmarked (failed ∙ ap (λ (d : D). raised (seen d).faults) ready.same)
       (tells ∙ ap (λ (d : D). is_some (seen d).contents) ready.same) counts (leaves_ready run)
+      (subst (λ (d : D). LeavesAfter (seen d) (seen new) GrowsFrom) ready.same (leaves_grown seen payloads (disk_of k) new run))
 
 module _ {D : Type 0} {seen : D → DiskSeen} {x : Kept D} {k : Journal D} {es : History} {payloads : List Bytes}
     (ready : IsReady seen x k es payloads) where

@@ -3,6 +3,7 @@ pub mod Events
 pub mod Filling
 pub mod Faults
 pub mod Found
+pub mod Keeping
 pub mod Kept
 pub mod Loading
 pub mod Made

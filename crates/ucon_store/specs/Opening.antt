@@ -9,6 +9,7 @@ use Rattle.ucon_syntax.specs.Policies.{accepted}
 use Rattle.ucon_store.specs.declared.fault.StoreFault.{StoreFault}
 use Rattle.ucon_store.specs.declared.fault.StoreFault.TheVariants.{NotJournal, Damaged, OtherPolicy, DiskFault, NoMemory}
 use Rattle.ucon_store.specs.Found.{Holds, IsFoundAs, IsFoundBy}
+use Rattle.ucon_store.specs.Keeping.{HasSameRecords, IsSameKind}
 use Rattle.ucon_store.specs.Opened.{Seen, Sees, SeesBy, fresh, not_journal, damaged, holds}
 use Rattle.ucon_store.specs.Starts.{IsBeforeAll, IsStart}
 use Rattle.ucon_store.specs.Points.{PolicyReading}
@@ -59,10 +60,13 @@ IsForeign (damaged number place) text = ⊤
 IsForeign (holds other entries there gate) text = ¬ (other ≡ text)
 
 -- What opening under the policy of this text may make of a file. What was found is still found, and if opening sees a foreign file there, it is as
--- it was.
+-- it was. Whatever is found, each record that counted counts still and none more, but that a file without a record may get the text; and the version
+-- stays.
 pub record OpensBy (reads : PolicyReading) (text file c : Bytes) : Type 0 where
   pub same : (H : History) → IsFoundBy reads text file H → IsFoundBy reads text c H
   pub untouched : (seen : Seen) → SeesBy reads file seen → IsForeign seen text → c ≡ file
+  pub records : HasSameRecords text file c
+  pub kind : IsSameKind file c
 
 -- ---- by the program's own reading
 

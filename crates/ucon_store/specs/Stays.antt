@@ -4,9 +4,10 @@ use Rattle.std.specs.Prelude.{is_some}
 use Rattle.ucon_model.specs.History.{History}
 use Rattle.ucon_model.specs.Plain.{Bytes, PlainPolicy}
 use Rattle.ucon_disk.specs.Causes.{raised}
-use Rattle.ucon_disk.specs.Run.{LeavesOnly}
+use Rattle.ucon_disk.specs.Run.{IsAtRest, LeavesAfter, LeavesOnly, joined, started, weaker}
 use Rattle.ucon_turn.specs.Lists.{Begins, begins_refl, begins_trans}
 use Rattle.ucon_store.specs.Found.{IsFoundAs, IsFoundMarked}
+use Rattle.ucon_store.specs.Keeping.{GrowsFrom, grows_on, grows_same}
 use Rattle.ucon_store.specs.Kept.{Kept}
 use Rattle.ucon_store.specs.Whole.{IsFounded, left_founded, whole}
 use Rattle.ucon_disk.specs.Seen.{DiskSeen}
@@ -18,10 +19,17 @@ pub record IsFoundBetween {D : Type 0} (x y : Kept D) (c : Bytes) : Type 0 where
   pub begun : Begins x.entries history
   pub within : Begins history y.entries ⊎ ((es : History) × (y.mark ≡ Some es) × (history ≡ y.entries ++ es))
 
+-- the disk is at rest, with a file that keeps this one's records before all else
+pub record RestsGrown {D : Type 0} (seen : D → DiskSeen) (disk : D) (file : Bytes) : Type 0 where
+  pub now : Bytes
+  pub rest : IsAtRest (seen disk) now
+  pub grown : GrowsFrom file now
+
 -- The policy, where the store begins and the opening stay, entries are only added, and a store with a mark stays as it is. The disk's count of
 -- faults is one more where there is a mark now and was none, and otherwise as it was. Where the disk tells, it still does. Behind each history
 -- that x is founded on, each image since is one of those at first, or is found between the two; y is founded on that history, too, if it has no
--- mark; and each image now is found as that history with y's entries behind it, or as these with y's mark.
+-- mark; and each image now is found as that history with y's entries behind it, or as these with y's mark. Whatever is found: if x's disk was at
+-- rest, each image since keeps the records of x's file before all else, and its version; without a mark y's disk is at rest with such a file.
 pub record Stays {D : Type 0} (seen : D → DiskSeen) (x y : Kept D) : Type 0 where
   pub policy : y.policy ≡ x.policy
   pub point : y.point ≡ x.point
@@ -37,6 +45,8 @@ pub record Stays {D : Type 0} (seen : D → DiskSeen) (x y : Kept D) : Type 0 wh
   pub founded : (P : PlainPolicy) (G : History) → IsFounded seen P x G → y.mark ≡ None → IsFounded seen P y G
   pub left_now : (P : PlainPolicy) (G : History) → IsFounded seen P x G → IsSome (seen y.disk).contents
       → (c : Bytes) → (seen y.disk).images c → IsFoundMarked y.policy (G ++ y.entries) y.mark c
+  pub grows : LeavesAfter (seen x.disk) (seen y.disk) GrowsFrom
+  pub rests : y.mark ≡ None → (file : Bytes) → IsAtRest (seen x.disk) file → RestsGrown seen y.disk file
 
 none_or_some : {A : Type 0} (o : Option A) → (o ≡ None) ⊎ ((a : A) × (o ≡ Some a))
 none_or_some None = inl refl
@@ -63,6 +73,10 @@ module _ {D : Type 0} (seen : D → DiskSeen) where
     left = λ P G f told. record { later = omega arith; each = λ c since. inl (only x.disk c since); before = λ t c le since. inl since };
     founded = λ P G f none. f;
     left_now = λ P G f. left_founded seen P x G f;
+    grows = record {
+      each = λ file rest. started (seen x.disk) (GrowsFrom file) (λ c since. subst (GrowsFrom file) (sym (rest.only c (only x.disk c since))) (grows_same file));
+    };
+    rests = λ none file rest. record { now = file; rest = rest; grown = grows_same file };
   }
 
   module _ (counts : (d : D) (t : ℕ) (c : List ℕ) → t ≤ (seen d).moment → (seen d).images c → (seen d).images_since t c) (x y z : Kept D)
@@ -138,6 +152,22 @@ module _ {D : Type 0} (seen : D → DiskSeen) where
         marked.0 marked.1 (p.left_now P G f))
         (none_or_some y.mark)
 
+    grows_again : (file : Bytes) → IsAtRest (seen x.disk) file → LeavesOnly (seen x.disk) (seen z.disk) (GrowsFrom file)
+    grows_again file rest = ⊎_elim
+        (λ (unmarked : y.mark ≡ None).
+        let there = p.rests unmarked file rest in
+        joined (seen x.disk) (seen y.disk) (seen z.disk) (GrowsFrom file) (p.grows.each file rest)
+        (weaker (seen y.disk) (seen z.disk) (GrowsFrom there.now) (GrowsFrom file) (λ c. grows_on file there.now c there.grown) (q.grows.each there.now there.rest)))
+        (λ (marked : (es : History) × (y.mark ≡ Some es)).
+        stopped (λ (s : Kept D). LeavesOnly (seen x.disk) (seen s.disk) (GrowsFrom file)) marked.0 marked.1 (p.grows.each file rest))
+        (none_or_some y.mark)
+
+    rests_again : z.mark ≡ None → (file : Bytes) → IsAtRest (seen x.disk) file → RestsGrown seen z.disk file
+    rests_again none file rest =
+        let there = p.rests (unmarked_before none) file rest in
+        let last = q.rests none there.now there.rest in
+        record { now = last.now; rest = last.rest; grown = grows_on file there.now last.now there.grown last.grown }
+
     unfailed_again : is_some z.mark ≡ is_some x.mark → (seen z.disk).faults ≡ (seen x.disk).faults
     unfailed_again same = by_mark x.mark refl
       where
@@ -174,4 +204,6 @@ module _ {D : Type 0} (seen : D → DiskSeen) where
       left = left_again;
       founded = λ P G f none. q.founded P G (p.founded P G f (unmarked_before none)) none;
       left_now = left_now_again;
+      grows = record { each = grows_again };
+      rests = rests_again;
     }

@@ -8,6 +8,7 @@ ghost use Rattle.ucon_journal.specs.Found as journalled;
 ghost use Rattle.ucon_journal.specs.Journal.{disk_of, gate_of, payload_of, HasEnded, IsReading, IsClosed};
 ghost use Rattle.ucon_model.specs.Plain.{PlainPolicy};
 ghost use Rattle.ucon_syntax.specs.Policies.{accepted};
+ghost use Rattle.ucon_store.specs.Keeping.{SameRecords};
 ghost use Rattle.ucon_store.specs.Kept.{payload_in};
 ghost use Rattle.ucon_store.specs.Loading.{IsRead, IsStanding};
 ghost use Rattle.ucon_store.specs.Opening.{HasReason, KeepsFound, Opens};
@@ -47,9 +48,11 @@ pub(crate) fn load<E: Engine, D: Disk>(
     ensures closed { OnOk result (IsClosed D.seen journal.new) }
     ensures places { OnOk result (SamePlaces (D.seen (disk_of journal.old)).contents (D.seen (disk_of journal.new)).contents) }
     ensures kind { OnOk result (SameKind (D.seen (disk_of journal.old)).contents (D.seen (disk_of journal.new)).contents) }
+    ensures records { OnOk result (SameRecords policy.now (D.seen (disk_of journal.old)).contents (D.seen (disk_of journal.new)).contents) }
     ensures only { OnOk result (Only (D.seen (disk_of journal.new)).contents (D.seen (disk_of journal.new)).images) }
     ensures reason { IfErr result (λ fault. HasReason fault policy.now (D.seen (disk_of journal.old)).contents
         (D.seen (disk_of journal.old)).faults (D.seen (disk_of journal.new)).faults) }
+    ensures bytes_err { IfErr result (λ fault. fault ≢ StoreFault.DiskFault → (D.seen (disk_of journal.new)).contents ≡ (D.seen (disk_of journal.old)).contents) }
     ensures images { LeavesAfter (D.seen (disk_of journal.old)) (D.seen (disk_of journal.new)) (Opens policy.now) }
     ensures tells { OnOk result (is_some (D.seen (disk_of journal.new)).contents ≡ is_some (D.seen (disk_of journal.old)).contents) }
     ensures unfailed { OnOk result ((D.seen (disk_of journal.new)).faults ≡ (D.seen (disk_of journal.old)).faults) }
@@ -86,9 +89,11 @@ fn go_on<E: Engine, D: Disk>(
     ensures closed { OnOk result (IsClosed D.seen journal.new) }
     ensures places { OnOk result (SamePlaces (D.seen (disk_of journal.old)).contents (D.seen (disk_of journal.new)).contents) }
     ensures kind { OnOk result (SameKind (D.seen (disk_of journal.old)).contents (D.seen (disk_of journal.new)).contents) }
+    ensures records { OnOk result (SameRecords policy.now (D.seen (disk_of journal.old)).contents (D.seen (disk_of journal.new)).contents) }
     ensures only { OnOk result (Only (D.seen (disk_of journal.new)).contents (D.seen (disk_of journal.new)).images) }
     ensures reason { IfErr result (λ fault. HasReason fault policy.now (D.seen (disk_of journal.old)).contents
         (D.seen (disk_of journal.old)).faults (D.seen (disk_of journal.new)).faults) }
+    ensures bytes_err { IfErr result (λ fault. fault ≢ StoreFault.DiskFault → (D.seen (disk_of journal.new)).contents ≡ (D.seen (disk_of journal.old)).contents) }
     ensures images { LeavesAfter (D.seen (disk_of journal.old)) (D.seen (disk_of journal.new)) (Opens policy.now) }
     ensures tells { OnOk result (is_some (D.seen (disk_of journal.new)).contents ≡ is_some (D.seen (disk_of journal.old)).contents) }
     ensures unfailed { OnOk result ((D.seen (disk_of journal.new)).faults ≡ (D.seen (disk_of journal.old)).faults) }
@@ -122,9 +127,11 @@ fn make<E: Engine, D: Disk>(
     ensures closed { OnOk result (IsClosed D.seen journal.new) }
     ensures places { OnOk result (SamePlaces (D.seen (disk_of journal.old)).contents (D.seen (disk_of journal.new)).contents) }
     ensures kind { OnOk result (SameKind (D.seen (disk_of journal.old)).contents (D.seen (disk_of journal.new)).contents) }
+    ensures records { OnOk result (SameRecords policy.now (D.seen (disk_of journal.old)).contents (D.seen (disk_of journal.new)).contents) }
     ensures only { OnOk result (Only (D.seen (disk_of journal.new)).contents (D.seen (disk_of journal.new)).images) }
     ensures reason { IfErr result (λ fault. HasReason fault policy.now (D.seen (disk_of journal.old)).contents
         (D.seen (disk_of journal.old)).faults (D.seen (disk_of journal.new)).faults) }
+    ensures bytes_err { IfErr result (λ fault. fault ≢ StoreFault.DiskFault → (D.seen (disk_of journal.new)).contents ≡ (D.seen (disk_of journal.old)).contents) }
     ensures images { LeavesAfter (D.seen (disk_of journal.old)) (D.seen (disk_of journal.new)) (Opens policy.now) }
     ensures tells { OnOk result (is_some (D.seen (disk_of journal.new)).contents ≡ is_some (D.seen (disk_of journal.old)).contents) }
     ensures unfailed { OnOk result ((D.seen (disk_of journal.new)).faults ≡ (D.seen (disk_of journal.old)).faults) }

@@ -3,9 +3,10 @@
 ghost use Rattle.std.specs.Prelude.{◌≡◌, ◌≢◌, ◌↔◌, ◌⊎◌, ◌∷◌, [], ◌++◌, ℕ, List, length, true, false, None, Some, IsSome, IfSome, IfOk, IfErr, OnOk, IsErrOf, ◌≤◌, ◌<◌, ◌+◌, ◌^◌, is_some};
 ghost use Rattle.ucon_base.specs.Memory.{out_of_memory};
 ghost use Rattle.ucon_disk.specs.Disk.{Only};
-ghost use Rattle.ucon_disk.specs.Run.{LeavesAfter, LeavesOnly};
+ghost use Rattle.ucon_disk.specs.Run.{LeavesAfter, LeavesFrom, LeavesOnly};
 ghost use Rattle.ucon_journal.specs.Found.{counted};
 ghost use Rattle.ucon_journal.specs.Journal.{told_payloads};
+ghost use Rattle.ucon_journal.specs.Opened.{opened};
 ghost use Rattle.ucon_model.specs.Action.{Trace};
 ghost use Rattle.ucon_model.specs.History.{History, changes};
 ghost use Rattle.ucon_model.specs.Plain.{PlainPolicy};
@@ -18,6 +19,7 @@ ghost use Rattle.ucon_turn.specs.Lists.{Continues};
 ghost use Rattle.ucon_syntax.specs.Policies.{accepted};
 ghost use Rattle.ucon_store.specs.Events.{events_of, number_of};
 ghost use Rattle.ucon_store.specs.Found.{IsFoundAs, IsFoundWith};
+ghost use Rattle.ucon_store.specs.Keeping.{SameRecords};
 ghost use Rattle.ucon_store.specs.Kept.{Kept};
 ghost use Rattle.ucon_store.specs.Opened.{last_point};
 ghost use Rattle.ucon_store.specs.Opening.{HasReason, IsSeenAs, Opens};
@@ -94,9 +96,10 @@ impl<E: Engine, D: Disk> Model for Store<E, D> {
 
 impl<E: Engine, D: Disk> Store<E, D> {
     /// Opens the store of the journal in a file, under the policy of this text, which has to be an accepted one. A file of at most nine bytes
-    /// becomes a journal, and one without a record gets the policy as record 0. So the file of an open store holds its policy. On a disk at rest a
-    /// file that is no journal, is damaged or has another policy keeps its bytes. A fault hands the disk back. The store begins behind the last
-    /// checkpoint, before which no record is run. So a file of which only what stands behind it is right is opened, too.
+    /// becomes a journal, and one without a record gets the policy as record 0. So the file of an open store holds its policy. A file that
+    /// is no journal, is damaged or has another policy keeps its bytes. A fault hands the disk back. The store begins behind the last
+    /// checkpoint, before which no record is run. So a file of which only what stands behind it is right is opened, too. Whatever the file is found
+    /// as, each of its records counts still.
     pub fn open(alloc: Global, policy: &[u8], disk: D) -> Result<Store<E, D>, (D, StoreFault)>
         requires { IsSome (accepted policy.now) }
         ensures store { IfOk result (λ s. (s.policy ≡ policy.now) × (s.opening ≡ s.before + length s.entries) × (s.mark ≡ None)) }
@@ -110,14 +113,18 @@ impl<E: Engine, D: Disk> Store<E, D> {
             → IsFounded D.seen P s []) }
         ensures found { IfOk result (λ s. IsBeforeAll s.point s.before → IfSome (D.seen disk).contents (λ file. IsFoundAs policy.now file s.entries)) }
         ensures images { IfOk result (λ s. LeavesAfter (D.seen disk) (D.seen s.disk) (Opens policy.now)) }
+        ensures since { IfOk result (λ s. LeavesFrom (D.seen disk) (D.seen s.disk) (Opens policy.now)) }
         ensures at_rest { IfOk result (λ s. Only (D.seen s.disk).contents (D.seen s.disk).images) }
         ensures places { IfOk result (λ s. SamePlaces (D.seen disk).contents (D.seen s.disk).contents) }
+        ensures records { IfOk result (λ s. SameRecords policy.now (D.seen disk).contents (D.seen s.disk).contents) }
         ensures old { IfOk result (λ s. (before now : List ℕ) → (D.seen disk).contents ≡ Some before → (D.seen s.disk).contents ≡ Some now
             → (has_points now ≡ false) ↔ IsOld before) }
         ensures tells { IfOk result (λ s. is_some (D.seen s.disk).contents ≡ is_some (D.seen disk).contents) }
         ensures unfailed { IfOk result (λ s. (D.seen s.disk).faults ≡ (D.seen disk).faults) }
         ensures reason { IfErr result (λ e. HasReason e.1 policy.now (D.seen disk).contents (D.seen disk).faults (D.seen e.0).faults) }
+        ensures bytes_err { IfErr result (λ e. e.1 ≢ StoreFault.DiskFault → IfSome (D.seen disk).contents (λ file. (D.seen e.0).contents ≡ Some (opened file))) }
         ensures images_err { IfErr result (λ e. LeavesAfter (D.seen disk) (D.seen e.0) (Opens policy.now)) }
+        ensures since_err { IfErr result (λ e. LeavesFrom (D.seen disk) (D.seen e.0) (Opens policy.now)) }
     {
         found_histories_stand_around_their_last_checkpoint();
         let mut journal = match Journal::open(alloc, disk) {

@@ -21,7 +21,8 @@ returns-clause-reply g c =
     let reply = client_line request.caller answer in
     let text = c.args.out.now.items in
     let gives : GivesReply seen was now line reply =
-    request_given seen was now c.take_and_rest-said.ensures.keeps line request.caller request.command.text.now answer c.requires.by c.requires.says c.take_and_rest-said.ensures.step in
+    request_given seen was now c.take_and_rest-said.ensures.keeps line request.caller request.command.text.now answer c.requires.by c.requires.says c.take_and_rest-said.ensures.step
+    c.take_and_rest-said.ensures.step_at in
     on_ok_both c.put_answer.result (c.put_answer.new.out.items ≡ text ++ reply) (IsLine reply)
     (IsReplied (λ r. GivesReply seen was now line r) text c.put_answer.new.out.items)
     (λ written one. (reply, one, gives, written)) c.put_answer.ensures.text c.put_answer.ensures.line
@@ -36,5 +37,6 @@ returns-clause-failed g c =
     let answer = answer_said c.take_and_rest-said.result in
     let reply = client_line request.caller answer in
     let gives : GivesReply seen was now line reply =
-    request_given seen was now c.take_and_rest-said.ensures.keeps line request.caller request.command.text.now answer c.requires.by c.requires.says c.take_and_rest-said.ensures.step in
+    request_given seen was now c.take_and_rest-said.ensures.keeps line request.caller request.command.text.now answer c.requires.by c.requires.says c.take_and_rest-said.ensures.step
+    c.take_and_rest-said.ensures.step_at in
     always_err c.put_answer.result ((r : List ℕ) × GivesReply seen was now line r) (reply, gives)

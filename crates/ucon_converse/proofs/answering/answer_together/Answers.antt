@@ -16,7 +16,7 @@ returns-clause-reply g c =
     let b = c.take_together-told.result in
     let t = c.take_together-told.ensures in
     together_replied seen was now t.keeps c.args.limit lines c.args.came.now c.requires.front (answered_in lines b) c.args.out.now.items c.put_answers.new.out.items
-    c.in_ok-count.count c.len_of_lines.result t.some (answered_of b.end lines b.placed.items b.taken t.within) c.in_ok-count.ensures.text c.in_ok-count.ensures.count t.steps c.len_of_lines.ensures
+    c.in_ok-count.count c.len_of_lines.result t.some (answered_of b.end lines b.placed.items b.taken t.within) c.in_ok-count.ensures.text c.in_ok-count.ensures.count t.steps t.steps_at c.len_of_lines.ensures
 
 pub returns-in_err-count-clause-failed : goal.returns-in_err-count-clause-failed
 returns-in_err-count-clause-failed g c =
@@ -27,4 +27,4 @@ returns-in_err-count-clause-failed g c =
     let b = c.take_together-told.result in
     let t = c.take_together-told.ensures in
     always_err c.from_residual.result (AreAnsweredUntold c.args.limit (GivesReplies seen) (λ ls. IsFrontOf ls c.args.came.now) was now)
-    (together_untold seen was now t.keeps c.args.limit lines c.args.came.now c.requires.front (answered_in lines b) (answered_of b.end lines b.placed.items b.taken t.within) t.steps)
+    (together_untold seen was now t.keeps c.args.limit lines c.args.came.now c.requires.front (answered_in lines b) (answered_of b.end lines b.placed.items b.taken t.within) t.steps t.steps_at)

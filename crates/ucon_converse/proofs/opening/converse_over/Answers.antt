@@ -27,6 +27,7 @@ returns-clause-talked g c =
       keeps = c.hold-talked.ensures.keeps;
       result = c.hold-talked.result;
       outcome_is = c.by.ensures.outcome ∙ (c.ended_by-outcome.ensures ∙ ap (ended_so c.hold-talked.result) (sym failed));
+      answered = λ P T accepts starts. c.hold-talked.ensures.answered P T accepts starts;
       conversed = λ P G places accepts front unmarked. c.hold-talked.ensures.conversed P G places accepts front unmarked;
     } in
     subst (λ (s : Answering g.row.D.Denot). IsTalkedOver seen s c.by.result.disk c.by.result.outcome (g.V.Voice.seen c.args.out.now) (g.V.Voice.seen c.hold-talked.new.out) hears)

@@ -1,6 +1,5 @@
-use Rattle.std.proofs.Common.{rules, ◌≡◌, ◌⊎◌, ⊎_elim, inl, inr, ℕ, None, Some, refl, sym, ap, subst, ◌∙◌}
-use Rattle.std.specs.Prelude.{Option, IsSome, IfErr, Result}
-use Rattle.ucon_model.specs.History.{History, trace}
+use Rattle.std.proofs.Common.{sym, subst}
+use Rattle.ucon_model.specs.History.{trace}
 use Rattle.ucon_store.specs.Starts.{checkpoint_behind}
 use Rattle.ucon_converse.specs.declared.points.Points.{Points}
 use Rattle.ucon_converse.specs.Answering.{answering}
@@ -8,6 +7,7 @@ use Rattle.ucon_converse.specs.Holding.{standing}
 use Rattle.ucon_converse.specs.Keeping.{IsDated, Keeps}
 use Rattle.ucon_converse.specs.Replies.{IsPointed}
 use Rattle.ucon_converse.proofs.Checkpoints.{keeps_tried, pointed_so, why_behind}
+use Rattle.ucon_converse.proofs.Reaching.{point_still}
 use Rattle.ucon_converse.proofs.pointing.try_point.Goals as goal
 
 pub returns-clause-pointed : goal.returns-clause-pointed
@@ -20,6 +20,11 @@ returns-clause-pointed g c = λ P G places accepts front.
     (sym c.note.ensures)
     (pointed_so g.D.Disk.seen P was now points G places front c.point-said.result s.stopped s.same (why_behind g.D.Disk.seen P (trace P G) was c.point-said.result accepts front.starts s.why)
     s.pointed s.failed c.place.result c.place.ensures.place s.stays.before)
+
+pub returns-clause-still : goal.returns-clause-still
+returns-clause-still g c = λ P T.
+    let s = c.point-said.ensures in
+    point_still g.D.Disk.seen P T c.args.store.now c.point-said.new.self s.stays.before c.point-said.result s.same s.pointed s.failed
 
 pub returns-clause-keeps : goal.returns-clause-keeps
 returns-clause-keeps g c =

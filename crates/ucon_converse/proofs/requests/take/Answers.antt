@@ -1,4 +1,4 @@
-use Rattle.std.proofs.Common.{rules, ◌≡◌, ◌∷◌, [], Ok, ℕ, List, refl, sym, subst, ◌∙◌}
+use Rattle.std.proofs.Common.{rules, ◌≡◌, ◌∷◌, [], Ok, refl, sym, subst, ◌∙◌}
 use Rattle.std.specs.Prelude.{None, Some}
 use Rattle.ucon_model.specs.declared.command.Command.{Command}
 use Rattle.ucon_model.specs.declared.command.Entry.{Entry}
@@ -8,9 +8,11 @@ use Rattle.ucon_model.specs.Plain.{PlainPolicy}
 use Rattle.ucon_store.specs.Starts.{IsStart}
 use Rattle.ucon_store.specs.Steps.{IsPlacedBehind, step_payload}
 use Rattle.ucon_converse.specs.Holding.{stands}
+use Rattle.ucon_converse.specs.Reached.{IsStepAt, reached_by}
 use Rattle.ucon_converse.specs.Replies.{IsStep}
 use Rattle.ucon_converse.specs.Said.{answer_said}
 use Rattle.ucon_converse.proofs.Checkpoints.{keeps_nothing, keeps_steps}
+use Rattle.ucon_converse.proofs.Reaching.{steps_at}
 use Rattle.ucon_converse.proofs.Stepping.{if_ok, store_steps}
 use Rattle.ucon_converse.proofs.Unpointed.{places_unpointed, step_unpointed}
 use Rattle.ucon_converse.proofs.requests.take.Goals as goal
@@ -26,6 +28,18 @@ returns-clause-step g c = λ P G points tried command accepts front says.
     (record { line = record { caller = c.args.request.now.caller; command = k }; answer = answer_said c.step.result })) same
     (store_steps g.D.Disk.seen (accepted was.policy) P accepts was now G points tried front
     (record { caller = c.args.request.now.caller; command = c.in_ok-command.command }) c.step.result s.stopped s.placed s.no_memory s.still s.failed)
+
+pub returns-clause-step_at : goal.returns-clause-step_at
+returns-clause-step_at g c = λ P T command accepts starts says.
+    let s = c.step.ensures in
+    let was = c.args.store.now in
+    let now = c.step.new.self in
+    let both : Ok c.in_ok-command.command ≡ Ok command = sym c.in_ok-command.ensures ∙ says in
+    let same : c.in_ok-command.command ≡ command = cc both in
+    subst (λ (k : Command). IsStepAt P (reached_by P T was) (reached_by P T now)
+    (record { line = record { caller = c.args.request.now.caller; command = k }; answer = answer_said c.step.result })) same
+    (steps_at g.D.Disk.seen P T was now s.stays.before (accepted was.policy) accepts starts
+    (record { caller = c.args.request.now.caller; command = c.in_ok-command.command }) c.step.result s.stopped s.placed_behind s.no_memory s.still s.failed_behind)
 
 pub returns-clause-unmarked : goal.returns-clause-unmarked
 returns-clause-unmarked g c =

@@ -1,4 +1,4 @@
-use Rattle.std.proofs.Common.{rules, ◌≡◌, true, false, ◌++◌, List, ℕ, sym, ap, subst, ◌∙◌}
+use Rattle.std.proofs.Common.{rules, ◌≡◌, true, false, ◌++◌, ap, subst, ◌∙◌}
 use Rattle.std.specs.Prelude.{None, is_ok}
 use Rattle.ucon_model.specs.Plain.{Bytes}
 use Rattle.ucon_syntax.specs.Policies.{accepted}
@@ -6,9 +6,11 @@ use Rattle.ucon_converse.specs.Answering.{answering}
 use Rattle.ucon_converse.specs.Holding.{standing, stands}
 use Rattle.ucon_converse.specs.Keeping.{IsDated}
 use Rattle.ucon_converse.specs.KeeperLaws.{keeps_again}
+use Rattle.ucon_converse.specs.Reached.{reached_by}
 use Rattle.ucon_converse.specs.Replies.{GoesOn}
 use Rattle.ucon_converse.proofs.Conversing.{front_same}
 use Rattle.ucon_converse.proofs.Dated.{dated_before, goes_as}
+use Rattle.ucon_converse.proofs.Reaching.{step_rests}
 use Rattle.ucon_converse.proofs.Stepping.{led_later, on_ok, rests_err, rests_ok}
 use Rattle.ucon_converse.proofs.requests.take_and_rest.Goals as goal
 
@@ -41,6 +43,13 @@ returns-then-is_ok-clause-step g c = λ P G places command accepts front says.
       rests = rests_ok (IsDated (seen was.disk).contents) P was.policy c.take-said.result before after ok
           (subst (λ (text : Bytes). GoesOn (IsDated (seen was.disk).contents) P text before after) s.policy dated);
     }
+
+pub returns-then-is_ok-clause-step_at : goal.returns-then-is_ok-clause-step_at
+returns-then-is_ok-clause-step_at g c = λ P T command accepts starts says.
+    let ok : is_ok c.take-said.result ≡ true = search rules in
+    step_rests P (reached_by P T c.args.store.now) (reached_by P T c.take-said.new.store) (reached_by P T c.rest.new.store)
+    (record { caller = c.args.request.now.caller; command = command }) c.take-said.result ok (c.take-said.ensures.step_at P T command accepts starts says)
+    (c.rest.ensures.still P T)
 
 pub returns-then-is_ok-clause-keeps : goal.returns-then-is_ok-clause-keeps
 returns-then-is_ok-clause-keeps g c =

@@ -10,8 +10,10 @@ use Rattle.ucon_converse.specs.Answering.{answering}
 use Rattle.ucon_converse.specs.Holding.{standing}
 use Rattle.ucon_converse.specs.Keeping.{IsDated, Keeps}
 use Rattle.ucon_converse.specs.KeeperLaws.{keeps_again}
+use Rattle.ucon_converse.specs.Reached.{reached_by}
 use Rattle.ucon_converse.specs.Replies.{GoesOn}
 use Rattle.ucon_converse.specs.Together.{is_answered}
+use Rattle.ucon_converse.proofs.BatchesAt.{answered_at, unanswered_at}
 use Rattle.ucon_converse.proofs.Checkpoints.{keeps_steps}
 use Rattle.ucon_converse.proofs.Conversing.{front_same}
 use Rattle.ucon_converse.proofs.Dated.{dated_before, goes_as}
@@ -68,6 +70,28 @@ returns-then-is_answered-clause-steps g c = λ P G places accepts front.
     steps_answered (IsDated (seen was.disk).contents) P was.policy G (places ++ points.made) points.tried was mid c.args.lines.now c.requires.unmarked (c.requires.due P G accepts front)
     b.end b.placed.items b.taken yes batched.replies s.cut s.within batched.entries (λ ok. s.unmarked ok ∙ c.requires.unmarked) after
     (subst (λ (text : Bytes). GoesOn (IsDated (seen was.disk).contents) P text before after) s.stays.policy dated)
+
+pub returns-then-is_answered-clause-steps_at : goal.returns-then-is_answered-clause-steps_at
+returns-then-is_answered-clause-steps_at g c = λ P T accepts starts.
+    let was = c.args.store.now in
+    let mid = c.step_all-told.new.self in
+    let b = c.step_all-told.result in
+    let s = c.step_all-told.ensures in
+    let batched = s.batched_behind P T accepts starts in
+    let holds : is_answered b.end b.placed.items ≡ true = search rules in
+    answered_at P T was mid c.args.lines.now c.requires.unmarked s.stays.before b.end b.placed.items b.taken holds batched.replies s.cut batched.entries
+    (λ ok. s.unmarked ok ∙ c.requires.unmarked) (reached_by P T c.rest.new.store) (c.rest.ensures.still P T)
+
+pub returns-else-is_answered-clause-steps_at : goal.returns-else-is_answered-clause-steps_at
+returns-else-is_answered-clause-steps_at g c = λ P T accepts starts.
+    let was = c.args.store.now in
+    let b = c.step_all-told.result in
+    let s = c.step_all-told.ensures in
+    let batched = s.batched_behind P T accepts starts in
+    let fails : is_answered b.end b.placed.items ≡ false = search rules in
+    unanswered_at P T was c.step_all-told.new.self c.args.lines.now c.requires.unmarked s.stays.before b.end b.placed.items b.taken fails c.requires.some
+    (halted g (goal.at.returns-else-is_answered-clause-steps_at g c).After-step_all-told) s.all s.full
+    batched.replies s.cut s.doubted s.within batched.entries (λ ok. s.unmarked ok ∙ c.requires.unmarked) (λ bad. (s.failed bad).0) batched.mark batched.sure batched.first
 
 pub returns-then-is_answered-clause-keeps : goal.returns-then-is_answered-clause-keeps
 returns-then-is_answered-clause-keeps g c =

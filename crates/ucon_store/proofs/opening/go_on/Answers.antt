@@ -12,6 +12,7 @@ use Rattle.ucon_store.specs.Points.{points_of}
 use Rattle.ucon_store.proofs.Differences.{no_difference}
 use Rattle.ucon_store.proofs.Loadings.{IsMended, few_payloads, home_told, kept_mended, kind_mended, mended_told, other_told, places_mended, read_told}
 use Rattle.ucon_store.proofs.Runs.{read_opens, then_opens, mend_opens}
+use Rattle.ucon_store.proofs.SamePlaces.{same_records}
 use Rattle.ucon_store.proofs.Stepping.{one_policy}
 use Rattle.ucon_store.proofs.opening.go_on.Given.{Over}
 use Rattle.ucon_store.proofs.opening.go_on.Goals.{After-mend, After-take_all, In_ok-mend, In_ok-take_all}
@@ -137,3 +138,8 @@ returns-clause-places g c = places_mended (mended g (goal.at.returns-clause-plac
 
 pub returns-clause-kind : goal.returns-clause-kind
 returns-clause-kind g c = kind_mended (mended g (goal.at.returns-clause-kind g c).In_ok-mend)
+
+pub returns-clause-records : goal.returns-clause-records
+returns-clause-records g c =
+    same_records c.args.policy.now (g.D.Disk.seen (disk_of c.args.journal.now)).contents (g.D.Disk.seen (disk_of c.mend.new.self)).contents
+    (mended g (goal.at.returns-clause-records g c).In_ok-mend).same

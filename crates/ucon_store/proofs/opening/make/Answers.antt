@@ -9,7 +9,7 @@ use Rattle.ucon_store.specs.Kept.{payload_in}
 use Rattle.ucon_store.proofs.Openings.{holds_made}
 use Rattle.ucon_store.proofs.Loadings.{IsOfKind, fresh_kept, fresh_payloads, fresh_read}
 use Rattle.ucon_store.proofs.Runs.{mend_fresh_opens, make_opens, read_opens}
-use Rattle.ucon_store.proofs.SamePlaces.{made_places, same_kind}
+use Rattle.ucon_store.proofs.SamePlaces.{made_places, made_records, same_kind}
 use Rattle.ucon_store.proofs.Versions.{closed_kind, ended_kind}
 use Rattle.ucon_store.specs.Points.{points_of}
 use Rattle.ucon_store.proofs.opening.make.Goals as goal
@@ -38,8 +38,11 @@ returns-in_err-append-clause-images g c =
     let shut = shut_at (gate_of c.reserve.new.self) in
     let bytes = subst (λ (d : g.row.D.Denot). (seen (disk_of c.mend.new.self)).contents ≡ option_map shut (seen d).contents) c.reserve.ensures.disk c.in_ok-mend.ensures.bytes in
     let same = subst (λ (d : g.row.D.Denot). told_payloads (seen (disk_of c.mend.new.self)).contents ≡ told_payloads (seen d).contents) c.reserve.ensures.disk c.in_ok-mend.ensures.same in
+    let version : version_of c.mend.new.self ≡ version_of c.args.journal.now = c.mend.ensures.version ∙ c.reserve.ensures.version in
     make_opens seen text standing.P (disk_of c.args.journal.now) (disk_of c.mend.new.self) (disk_of c.append.new.self) (omega (arith, c.in_ok-loaded.ensures.short)) accepts
-    c.requires.fresh shut bytes same c.in_ok-mend.ensures.only mended c.append.ensures.images
+    c.requires.fresh shut bytes same c.in_ok-mend.ensures.only mended c.append.ensures.images (points_of (version_of c.args.journal.now))
+    (ended_kind seen c.args.journal.now c.requires.ended)
+    (subst (λ (v : ℕ). IfSome (seen (disk_of c.mend.new.self)).contents (IsOfKind (points_of v))) version (closed_kind seen c.mend.new.self c.in_ok-mend.ensures.closed))
 
 pub returns-clause-images : goal.returns-clause-images
 returns-clause-images g c =
@@ -51,8 +54,11 @@ returns-clause-images g c =
     let shut = shut_at (gate_of c.reserve.new.self) in
     let bytes = subst (λ (d : g.row.D.Denot). (seen (disk_of c.mend.new.self)).contents ≡ option_map shut (seen d).contents) c.reserve.ensures.disk c.in_ok-mend.ensures.bytes in
     let same = subst (λ (d : g.row.D.Denot). told_payloads (seen (disk_of c.mend.new.self)).contents ≡ told_payloads (seen d).contents) c.reserve.ensures.disk c.in_ok-mend.ensures.same in
+    let version : version_of c.mend.new.self ≡ version_of c.args.journal.now = c.mend.ensures.version ∙ c.reserve.ensures.version in
     make_opens seen text standing.P (disk_of c.args.journal.now) (disk_of c.mend.new.self) (disk_of c.append.new.self) (omega (arith, c.in_ok-loaded.ensures.short)) accepts
-    c.requires.fresh shut bytes same c.in_ok-mend.ensures.only mended c.append.ensures.images
+    c.requires.fresh shut bytes same c.in_ok-mend.ensures.only mended c.append.ensures.images (points_of (version_of c.args.journal.now))
+    (ended_kind seen c.args.journal.now c.requires.ended)
+    (subst (λ (v : ℕ). IfSome (seen (disk_of c.mend.new.self)).contents (IsOfKind (points_of v))) version (closed_kind seen c.mend.new.self c.in_ok-mend.ensures.closed))
 
 pub returns-clause-read : goal.returns-clause-read
 returns-clause-read g c = λ P accepts.
@@ -102,3 +108,12 @@ returns-clause-kind g c =
     same_kind (seen (disk_of c.args.journal.now)).contents (seen (disk_of c.append.new.self)).contents (points_of (version_of c.args.journal.now))
     (ended_kind seen c.args.journal.now c.requires.ended)
     (subst (λ (v : ℕ). IfSome (seen (disk_of c.append.new.self)).contents (IsOfKind (points_of v))) version (closed_kind seen c.append.new.self c.in_ok-append.ensures.closed))
+
+pub returns-clause-records : goal.returns-clause-records
+returns-clause-records g c =
+    let seen = g.D.Disk.seen in
+    let m = (seen (disk_of c.mend.new.self)).contents in
+    let shut = shut_at (gate_of c.reserve.new.self) in
+    let bytes = subst (λ (d : g.row.D.Denot). m ≡ option_map shut (seen d).contents) c.reserve.ensures.disk c.in_ok-mend.ensures.bytes in
+    let same = subst (λ (d : g.row.D.Denot). told_payloads m ≡ told_payloads (seen d).contents) c.reserve.ensures.disk c.in_ok-mend.ensures.same in
+    made_records (seen (disk_of c.args.journal.now)).contents m (seen (disk_of c.append.new.self)).contents c.args.policy.now shut c.requires.fresh bytes same c.in_ok-append.ensures.added

@@ -1,7 +1,7 @@
 use Rattle.std.proofs.Common.{◌≡◌, Some, sym, ap, ◌∙◌, subst, arith}
 use Rattle.std.specs.Prelude.{IfSome}
 use Rattle.std.specs.Option.{option_map}
-use Rattle.ucon_disk.specs.Run.{LeavesAfter}
+use Rattle.ucon_disk.specs.Run.{LeavesAfter, LeavesFrom}
 use Rattle.ucon_journal.specs.Journal.{disk_of}
 use Rattle.ucon_journal.specs.Opened.{opened}
 use Rattle.ucon_model.specs.Plain.{Bytes, PlainPolicy}
@@ -13,10 +13,10 @@ use Rattle.ucon_store.specs.Loading.{IsRead}
 use Rattle.ucon_store.specs.Opened.{last_point}
 use Rattle.ucon_store.specs.Opening.{HasReason, IsSeenAs, KeepsFound, Opens}
 use Rattle.ucon_store.specs.Starts.{BeginsAt, IsStart}
-use Rattle.ucon_store.proofs.Begun.{opening_reason, reason_before, told_before}
+use Rattle.ucon_store.proofs.Begun.{opening_bytes, opening_reason, reason_before, same_bytes, told_before}
 use Rattle.ucon_store.proofs.Fronts.{begins_opened, found_first_opened, founded_first, goes_on_opened, seen_opened}
-use Rattle.ucon_store.proofs.Runs.{begin_opens, whole_opens}
-use Rattle.ucon_store.proofs.SamePlaces.{opened_old, opened_places}
+use Rattle.ucon_store.proofs.Runs.{begin_opens, rest_opens, whole_opens}
+use Rattle.ucon_store.proofs.SamePlaces.{opened_old, opened_places, opened_records}
 use Rattle.ucon_store.proofs.Stepping.{one_policy}
 use Rattle.ucon_store.proofs.store.Store.open.Goals as goal
 
@@ -29,9 +29,26 @@ returns-in-Err-clause-reason g c =
     (opening_reason (λ file. (g.D.Disk.seen c.in-Err.disk).contents ≡ Some file) c.in-Err.fault c.args.policy.now o before now
     c.in-Err.ensures.not_journal c.in-Err.ensures.failed c.in-Err.ensures.unfailed_err)
 
+pub returns-in-Err-clause-since_err : goal.returns-in-Err-clause-since_err
+returns-in-Err-clause-since_err g c =
+    begin_opens g.D.Disk.seen c.args.policy.now c.args.disk c.in-Err.disk c.in-Err.ensures.since_err
+
 pub returns-in-Err-clause-images_err : goal.returns-in-Err-clause-images_err
 returns-in-Err-clause-images_err g c =
-    begin_opens g.D.Disk.seen c.args.policy.now c.args.disk c.in-Err.disk c.in-Err.ensures.images_err
+    rest_opens g.D.Disk.seen c.args.policy.now c.args.disk c.in-Err.disk
+    (begin_opens g.D.Disk.seen c.args.policy.now c.args.disk c.in-Err.disk c.in-Err.ensures.since_err)
+
+pub returns-in-Err-clause-bytes_err : goal.returns-in-Err-clause-bytes_err
+returns-in-Err-clause-bytes_err g c = λ other.
+    opening_bytes c.in-Err.fault (g.D.Disk.seen c.args.disk).contents (g.D.Disk.seen c.in-Err.disk).contents c.in-Err.ensures.not_journal
+    (λ is. other (c.into.ensures ∙ is))
+
+pub returns-in-Err-load-clause-bytes_err : goal.returns-in-Err-load-clause-bytes_err
+returns-in-Err-load-clause-bytes_err g c = λ other.
+    let o = (g.D.Disk.seen c.args.disk).contents in
+    let m = (g.D.Disk.seen (disk_of c.in-Ok.journal)).contents in
+    subst (λ (d : g.row.D.Denot). IfSome o (λ file. (g.D.Disk.seen d).contents ≡ Some (opened file))) (sym c.close.ensures)
+    (same_bytes o m (g.D.Disk.seen (disk_of c.load.new.journal)).contents c.in-Ok.ensures.bytes (c.in-Err-load.ensures.bytes_err other))
 
 pub returns-in-Err-load-clause-reason : goal.returns-in-Err-load-clause-reason
 returns-in-Err-load-clause-reason g c =
@@ -41,12 +58,20 @@ returns-in-Err-load-clause-reason g c =
     (reason_before c.in-Err-load.fault c.args.policy.now o (g.D.Disk.seen (disk_of begun)).contents (g.D.Disk.seen c.args.disk).faults (g.D.Disk.seen (disk_of begun)).faults (g.D.Disk.seen (disk_of c.load.new.journal)).faults
     c.in-Ok.ensures.bytes c.in-Ok.ensures.unfailed c.in-Err-load.ensures.reason)
 
+pub returns-in-Err-load-clause-since_err : goal.returns-in-Err-load-clause-since_err
+returns-in-Err-load-clause-since_err g c =
+    let begun = c.in-Ok.journal in
+    subst (λ (d : g.row.D.Denot). LeavesFrom (g.D.Disk.seen c.args.disk) (g.D.Disk.seen d) (Opens c.args.policy.now)) (sym c.close.ensures)
+    (whole_opens g.D.Disk.seen c.args.policy.now c.args.disk (disk_of begun) (disk_of c.load.new.journal)
+    c.in-Ok.ensures.since c.in-Ok.ensures.bytes c.in-Ok.ensures.only c.load.ensures.images)
+
 pub returns-in-Err-load-clause-images_err : goal.returns-in-Err-load-clause-images_err
 returns-in-Err-load-clause-images_err g c =
     let begun = c.in-Ok.journal in
     subst (λ (d : g.row.D.Denot). LeavesAfter (g.D.Disk.seen c.args.disk) (g.D.Disk.seen d) (Opens c.args.policy.now)) (sym c.close.ensures)
+    (rest_opens g.D.Disk.seen c.args.policy.now c.args.disk (disk_of c.load.new.journal)
     (whole_opens g.D.Disk.seen c.args.policy.now c.args.disk (disk_of begun) (disk_of c.load.new.journal)
-    c.in-Ok.ensures.images c.in-Ok.ensures.bytes c.in-Ok.ensures.only c.load.ensures.images)
+    c.in-Ok.ensures.since c.in-Ok.ensures.bytes c.in-Ok.ensures.only c.load.ensures.images))
 
 pub returns-in-Ok-load-clause-begins : goal.returns-in-Ok-load-clause-begins
 returns-in-Ok-load-clause-begins g c =
@@ -117,10 +142,16 @@ returns-in-Ok-load-clause-found g c = λ first.
     (found_first_opened text standing.P accepts point l.before l.entries first) (g.D.Disk.seen c.args.disk).contents (g.D.Disk.seen (disk_of c.in-Ok.journal)).contents c.in-Ok.ensures.bytes
     (c.in-Ok-load.ensures.read standing.P accepts)
 
+pub returns-in-Ok-load-clause-since : goal.returns-in-Ok-load-clause-since
+returns-in-Ok-load-clause-since g c =
+    whole_opens g.D.Disk.seen c.args.policy.now c.args.disk (disk_of c.in-Ok.journal) (disk_of c.load.new.journal)
+    c.in-Ok.ensures.since c.in-Ok.ensures.bytes c.in-Ok.ensures.only c.load.ensures.images
+
 pub returns-in-Ok-load-clause-images : goal.returns-in-Ok-load-clause-images
 returns-in-Ok-load-clause-images g c =
-    whole_opens g.D.Disk.seen c.args.policy.now c.args.disk (disk_of c.in-Ok.journal) (disk_of c.load.new.journal)
-    c.in-Ok.ensures.images c.in-Ok.ensures.bytes c.in-Ok.ensures.only c.load.ensures.images
+    rest_opens g.D.Disk.seen c.args.policy.now c.args.disk (disk_of c.load.new.journal)
+    (whole_opens g.D.Disk.seen c.args.policy.now c.args.disk (disk_of c.in-Ok.journal) (disk_of c.load.new.journal)
+    c.in-Ok.ensures.since c.in-Ok.ensures.bytes c.in-Ok.ensures.only c.load.ensures.images)
 
 pub invariant_of-result : goal.invariant_of-result
 invariant_of-result g c =
@@ -147,3 +178,8 @@ returns-in-Ok-load-clause-places g c =
 pub returns-in-Ok-load-clause-old : goal.returns-in-Ok-load-clause-old
 returns-in-Ok-load-clause-old g c =
     opened_old (g.D.Disk.seen c.args.disk).contents (g.D.Disk.seen (disk_of c.in-Ok.journal)).contents (g.D.Disk.seen (disk_of c.load.new.journal)).contents c.in-Ok.ensures.bytes c.in-Ok-load.ensures.kind
+
+pub returns-in-Ok-load-clause-records : goal.returns-in-Ok-load-clause-records
+returns-in-Ok-load-clause-records g c =
+    opened_records c.args.policy.now (g.D.Disk.seen c.args.disk).contents (g.D.Disk.seen (disk_of c.in-Ok.journal)).contents
+    (g.D.Disk.seen (disk_of c.load.new.journal)).contents c.in-Ok.ensures.bytes c.in-Ok-load.ensures.records
