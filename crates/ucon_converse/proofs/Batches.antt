@@ -50,7 +50,7 @@ none_changes P H (x ∷ xs) ys none = by (changes (said P H x.caller x.command))
 
 -- the first line of those that aren't sure, which would change something
 pub first_of : (P : PlainPolicy) (H : History) (n taken : ℕ) (lines : List Entry) → n < taken → taken ≤ length lines → changing P H (take n lines) ≡ []
-    → changing P H (take (n + 1) lines) ≢ []
+    → changing P H (take (suc n) lines) ≢ []
     → (e : Entry) × (others : List Entry) × (drop n (take taken lines) ≡ e ∷ others) × (changes (said P H e.caller e.command) ≡ true)
     × (changing P H (take taken lines) ≡ e ∷ changing P (H ++ e ∷ []) others)
 first_of P H n zero lines lt le none some = absurd (let no : ⊥ = omega arith in no)
@@ -65,12 +65,12 @@ first_of P H zero (suc taken) (e ∷ lines) lt le none some = by (changes (said 
 first_of P H (suc n) (suc taken) (x ∷ lines) lt le none some =
     by (λ none' some'. first_of P H n taken lines (omega arith) (omega arith) none' some') (changes (said P H x.caller x.command)) refl none some
   where
-    by : (changing P H (take n lines) ≡ [] → changing P H (take (n + 1) lines) ≢ []
+    by : (changing P H (take n lines) ≡ [] → changing P H (take (suc n) lines) ≢ []
         → (e : Entry) × (others : List Entry) × (drop n (take taken lines) ≡ e ∷ others) × (changes (said P H e.caller e.command) ≡ true)
         × (changing P H (take taken lines) ≡ e ∷ changing P (H ++ e ∷ []) others))
         → (b : Bool) → changes (said P H x.caller x.command) ≡ b
         → (if b then x ∷ changing P (H ++ x ∷ []) (take n lines) else changing P H (take n lines)) ≡ []
-        → (if b then x ∷ changing P (H ++ x ∷ []) (take (n + 1) lines) else changing P H (take (n + 1) lines)) ≢ []
+        → (if b then x ∷ changing P (H ++ x ∷ []) (take (suc n) lines) else changing P H (take (suc n) lines)) ≢ []
         → (e : Entry) × (others : List Entry) × (drop n (take taken lines) ≡ e ∷ others) × (changes (said P H e.caller e.command) ≡ true)
         × ((if changes (said P H x.caller x.command) then x ∷ changing P (H ++ x ∷ []) (take taken lines) else changing P H (take taken lines))
         ≡ e ∷ changing P (H ++ e ∷ []) others)

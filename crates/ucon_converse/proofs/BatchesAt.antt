@@ -22,7 +22,7 @@ use Rattle.ucon_converse.proofs.Tellings.{trace_append}
 
 -- the first line of those that aren't sure, which would change something
 first_at : (P : PlainPolicy) (T : Trace) (n taken : ℕ) (lines : List Entry) → n < taken → taken ≤ length lines → changing_after P T (take n lines) ≡ []
-    → changing_after P T (take (n + 1) lines) ≢ []
+    → changing_after P T (take (suc n) lines) ≢ []
     → (e : Entry) × (others : List Entry) × (drop n (take taken lines) ≡ e ∷ others) × (changes (reply P T e.caller e.command) ≡ true)
     × (changing_after P T (take taken lines) ≡ e ∷ changing_after P (after P T e.caller e.command) others)
 first_at P T n zero lines lt le none some = absurd (let bad : ⊥ = omega arith in bad)
@@ -43,12 +43,12 @@ first_at P T zero (suc taken) (e ∷ lines) lt le none some = by (changes (reply
 first_at P T (suc n) (suc taken) (x ∷ lines) lt le none some =
     by (λ none' some'. first_at P T n taken lines (omega arith) (omega arith) none' some') (changes (reply P T x.caller x.command)) refl none some
   where
-    by : (changing_after P T (take n lines) ≡ [] → changing_after P T (take (n + 1) lines) ≢ []
+    by : (changing_after P T (take n lines) ≡ [] → changing_after P T (take (suc n) lines) ≢ []
         → (e : Entry) × (others : List Entry) × (drop n (take taken lines) ≡ e ∷ others) × (changes (reply P T e.caller e.command) ≡ true)
         × (changing_after P T (take taken lines) ≡ e ∷ changing_after P (after P T e.caller e.command) others))
         → (b : Bool) → changes (reply P T x.caller x.command) ≡ b
         → (if b then x ∷ changing_after P (after P T x.caller x.command) (take n lines) else changing_after P T (take n lines)) ≡ []
-        → (if b then x ∷ changing_after P (after P T x.caller x.command) (take (n + 1) lines) else changing_after P T (take (n + 1) lines)) ≢ []
+        → (if b then x ∷ changing_after P (after P T x.caller x.command) (take (suc n) lines) else changing_after P T (take (suc n) lines)) ≢ []
         → (e : Entry) × (others : List Entry) × (drop n (take taken lines) ≡ e ∷ others) × (changes (reply P T e.caller e.command) ≡ true)
         × ((if changes (reply P T x.caller x.command) then x ∷ changing_after P (after P T x.caller x.command) (take taken lines) else changing_after P T (take taken lines))
         ≡ e ∷ changing_after P (after P T e.caller e.command) others)
@@ -260,7 +260,8 @@ module _ {D : Type 0} (P : PlainPolicy) (T : Trace) (old new : Kept D) (lines : 
       → new.entries ≡ old.entries → new.mark ≡ Some (changing_after P U (take taken lines)) → changing_after P U (take (length ps) lines) ≡ []
       → changing_after P U (take (length ps + 1) lines) ≢ [] → StepEachAt P was (answered_so ends.DiskFault lines ps taken) (reached_by P T new)
   failed_at ps taken is few within same mark sure first =
-      let f = first_at P U (length ps) taken lines few within sure first in
+      let next : changing_after P U (take (suc (length ps)) lines) ≢ [] = subst (λ (n : ℕ). changing_after P U (take n lines) ≢ []) (omega arith) first in
+      let f = first_at P U (length ps) taken lines few within sure next in
       let clean : Reached = record { actions = U; entries = count; failed = None } in
       let here : clean ≡ was = λ i. record { actions = U; entries = count; failed = sym none i } in
       let there : failing P U count (f.0 ∷ changing_after P (after P U f.0.caller f.0.command) f.1) ≡ reached_by P T new =

@@ -108,7 +108,7 @@ front_told limit (e ∷ es) (t ∷ told) came rest is of =
     let behind : drop (length one.line + 1) came ≡ lines_of r.all ++ r.rest = ap (λ (n : ℕ). drop n came) (sym one.len_is) ∙ r.front in
     record {
       all = record { line = one.line; reply = answer_line t } ∷ r.all;
-      count = ap (λ (n : ℕ). 1 + n) r.count;
+      count = ap (λ (n : ℕ). suc n) r.count;
       fits = ((one.stands.bare, one.stands.fits), r.fits);
       lines = λ each. (each.0, r.lines each.1);
       rest = r.rest;

@@ -10,6 +10,7 @@ pub mod InFront
 pub mod Giving
 pub mod Growing
 pub mod Leads
+pub mod Lengths
 pub mod Long
 pub mod OneLine
 pub mod Overall

@@ -1,5 +1,5 @@
 -- The lines of answers, one behind the other.
-use Rattle.std.proofs.Common.{◌≡◌, ℕ, ◌+◌, ◌≤◌, List, [], ◌∷◌, ◌++◌, length, take, drop, append_assoc, length-append, refl, sym, ap, ◌∙◌, arith}
+use Rattle.std.proofs.Common.{suc, ◌≡◌, ℕ, ◌+◌, ◌≤◌, List, [], ◌∷◌, ◌++◌, length, take, drop, append_assoc, length-append, refl, sym, ap, ◌∙◌, arith}
 use Rattle.std.proofs.lemmas.List.{append-nil, length-drop, length-take}
 use Rattle.ucon_base.specs.Elements.{each_append}
 use Rattle.ucon_flow.specs.Lines.{IsLine}
@@ -34,15 +34,15 @@ pub replied_count : (lines : List Entry) (ps : List Placed) → length ps ≤ le
 replied_count [] [] le = refl
 replied_count [] (p ∷ ps) le = absurd (let no : ⊥ = omega arith in no)
 replied_count (e ∷ lines) [] le = refl
-replied_count (e ∷ lines) (p ∷ ps) le = ap (λ (n : ℕ). 1 + n) (replied_count lines ps (omega arith))
+replied_count (e ∷ lines) (p ∷ ps) le = ap (λ (n : ℕ). suc n) (replied_count lines ps (omega arith))
 
 stopped_count : (lines : List Entry) → length (all_stopped lines) ≡ length lines
 stopped_count [] = refl
-stopped_count (e ∷ lines) = ap (λ (n : ℕ). 1 + n) (stopped_count lines)
+stopped_count (e ∷ lines) = ap (λ (n : ℕ). suc n) (stopped_count lines)
 
 pub broken_count : (lines : List Entry) → length (broken_off lines) ≡ length lines
 broken_count [] = refl
-broken_count (e ∷ lines) = ap (λ (n : ℕ). 1 + n) (stopped_count lines)
+broken_count (e ∷ lines) = ap (λ (n : ℕ). suc n) (stopped_count lines)
 
 -- with those that met a disk fault behind the others as many were answered as were taken up
 pub failed_count : (lines : List Entry) (ps : List Placed) (taken : ℕ) → length ps ≤ taken → taken ≤ length lines

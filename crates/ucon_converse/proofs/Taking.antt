@@ -85,7 +85,8 @@ module _ {D : Type 0} (dated : Type 0) (P : PlainPolicy) (text : Bytes) (G : His
       → new.entries ≡ old.entries → new.mark ≡ Some (changing P H (take taken lines)) → changing P H (take (length ps) lines) ≡ []
       → changing P H (take (length ps + 1) lines) ≢ [] → Steps (answered_so ends.DiskFault lines ps taken) (stands G points tried new)
   failed_steps ps taken is few within same mark sure first =
-      let f = first_of P H (length ps) taken lines few within sure first in
+      let next : changing P H (take (suc (length ps)) lines) ≢ [] = subst (λ (n : ℕ). changing P H (take n lines) ≢ []) (omega arith) first in
+      let f = first_of P H (length ps) taken lines few within sure next in
       let mid : Standing = at dated P text points tried H None in
       let doubt : new.mark ≡ Some (f.0 ∷ changing P (H ++ f.0 ∷ []) f.1) = mark ∙ ap Some f.4 in
       let last = to_there H (Some (f.0 ∷ changing P (H ++ f.0 ∷ []) f.1)) doubt (ap (λ (es : History). G ++ es) same) in

@@ -193,14 +193,20 @@ fn put_replies(
     lines: &[Entry],
     placed: &[Placed],
 ) -> Result<(), NoMemory>
+    requires { length placed.now ≤ length lines.now }
     ensures { OnOk result (ArePut (replied lines.now placed.now) out.old.items out.new.items) }
 {
-    let mut lines = lines;
-    let mut placed = placed;
-    while let (Some((asked, others)), Some((one, more))) = (lines.split_first(), placed.split_first()) {
-        put_placed(alloc, out, asked.caller, one)?;
-        lines = others;
-        placed = more;
+    let mut left = lines;
+    let mut replies = placed;
+    while let Some((one, more)) = replies.split_first() {
+        match left.split_first() {
+            Some((asked, others)) => {
+                put_placed(alloc, out, asked.caller, one)?;
+                left = others;
+                replies = more;
+            }
+            None => unreachable!(),
+        }
     }
     Ok(())
 }
@@ -237,7 +243,7 @@ pub(crate) fn len_of_lines(came: &[u8], count: usize) -> usize
     for _line in 0..count {
         match first_newline(&came[at..]) {
             Some(len) => at += len + 1,
-            None => break,
+            None => return at,
         }
     }
     at
