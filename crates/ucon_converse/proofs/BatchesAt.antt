@@ -109,25 +109,19 @@ module _ (P : PlainPolicy) where
       by (λ told stop. replied_at (behind_one x e) none lines q ps told last stop) (λ told stop. replied_at x none lines q ps told last stop)
       (changes (reply P x.actions e.caller e.command)) refl is m
     where
-      abbrev first : List Entry
-      first = take (length (q ∷ ps)) lines
-
-      abbrev later : Trace
-      later = after P x.actions e.caller e.command
-
-      by : (answers (q ∷ ps) ≡ answers_after P later (x.entries + 1) first → MayStop (behind_all (behind_one x e) (changing_after P later first)) last
+      by : (answers (q ∷ ps) ≡ answers_after P (after P x.actions e.caller e.command) (x.entries + 1) (take (length (q ∷ ps)) lines) → MayStop (behind_all (behind_one x e) (changing_after P (after P x.actions e.caller e.command) (take (length (q ∷ ps)) lines))) last
           → StepEachAt P (behind_one x e) (replied lines (q ∷ ps)) last)
-          → (answers (q ∷ ps) ≡ answers_after P x.actions x.entries first → MayStop (behind_all x (changing_after P x.actions first)) last
+          → (answers (q ∷ ps) ≡ answers_after P x.actions x.entries (take (length (q ∷ ps)) lines) → MayStop (behind_all x (changing_after P x.actions (take (length (q ∷ ps)) lines))) last
           → StepEachAt P x (replied lines (q ∷ ps)) last)
           → (b : Bool) → changes (reply P x.actions e.caller e.command) ≡ b
-          → answers (p ∷ q ∷ ps) ≡ (if b then (x.entries + 1, reply P x.actions e.caller e.command) ∷ answers_after P later (x.entries + 1) first
-          else (x.entries, reply P x.actions e.caller e.command) ∷ answers_after P x.actions x.entries first)
-          → MayStop (behind_all x (if b then e ∷ changing_after P later first else changing_after P x.actions first)) last
+          → answers (p ∷ q ∷ ps) ≡ (if b then (x.entries + 1, reply P x.actions e.caller e.command) ∷ answers_after P (after P x.actions e.caller e.command) (x.entries + 1) (take (length (q ∷ ps)) lines)
+          else (x.entries, reply P x.actions e.caller e.command) ∷ answers_after P x.actions x.entries (take (length (q ∷ ps)) lines))
+          → MayStop (behind_all x (if b then e ∷ changing_after P (after P x.actions e.caller e.command) (take (length (q ∷ ps)) lines) else changing_after P x.actions (take (length (q ∷ ps)) lines))) last
           → StepEachAt P x (replied (e ∷ lines) (p ∷ q ∷ ps)) last
       by with_it without true is' told m' =
           let both : ◌≡◌ {A = ℕ × PlainReply} (p.place, reply_of p.reply) (x.entries + 1, reply P x.actions e.caller e.command) = cc told in
-          let others : answers (q ∷ ps) ≡ answers_after P later (x.entries + 1) first = cc told in
-          let stop : MayStop (behind_all (behind_one x e) (changing_after P later first)) last =
+          let others : answers (q ∷ ps) ≡ answers_after P (after P x.actions e.caller e.command) (x.entries + 1) (take (length (q ∷ ps)) lines) = cc told in
+          let stop : MayStop (behind_all (behind_one x e) (changing_after P (after P x.actions e.caller e.command) (take (length (q ∷ ps)) lines))) last =
           record { actions = m'.actions; entries = let n = m'.entries in omega arith; failed = m'.failed } in (
             behind_one x e,
             changed_step x none e p is' (ap (λ (z : ℕ × PlainReply). z.0) both) (ap (λ (z : ℕ × PlainReply). z.1) both) (behind_one x e) (may_same (behind_one x e)),
@@ -135,7 +129,7 @@ module _ (P : PlainPolicy) where
           )
       by with_it without false is' told m' =
           let both : ◌≡◌ {A = ℕ × PlainReply} (p.place, reply_of p.reply) (x.entries, reply P x.actions e.caller e.command) = cc told in
-          let others : answers (q ∷ ps) ≡ answers_after P x.actions x.entries first = cc told in (
+          let others : answers (q ∷ ps) ≡ answers_after P x.actions x.entries (take (length (q ∷ ps)) lines) = cc told in (
             x,
             still_step x none e p is' (ap (λ (z : ℕ × PlainReply). z.0) both) (ap (λ (z : ℕ × PlainReply). z.1) both) x (may_same x),
             without others m',
@@ -159,29 +153,23 @@ module _ (P : PlainPolicy) where
   stops_at T n [] doubt some = ap (failing T n) (sym (append-nil doubt))
   stops_at T n (e ∷ lines) doubt some = by (λ d more. stops_at T n lines d more) (changes (reply P (trace_from P T doubt) e.caller e.command)) refl
     where
-      abbrev there : Trace
-      there = trace_from P T doubt
-
-      abbrev chosen : Bool → History
-      chosen b = if b then e ∷ changing_after P (after P there e.caller e.command) lines else changing_after P there lines
-
       by : ((d : History) → d ≢ [] → StepEachAt P (failing T n d) (all_stopped lines) (failing T n (d ++ changing_after P (trace_from P T d) lines)))
-          → (b : Bool) → changes (reply P there e.caller e.command) ≡ b
-          → StepEachAt P (failing T n doubt) (all_stopped (e ∷ lines)) (failing T n (doubt ++ chosen (changes (reply P there e.caller e.command))))
+          → (b : Bool) → changes (reply P (trace_from P T doubt) e.caller e.command) ≡ b
+          → StepEachAt P (failing T n doubt) (all_stopped (e ∷ lines)) (failing T n (doubt ++ (if changes (reply P (trace_from P T doubt) e.caller e.command) then e ∷ changing_after P (after P (trace_from P T doubt) e.caller e.command) lines else changing_after P (trace_from P T doubt) lines)))
       by others true is =
           let longer : History = doubt ++ e ∷ [] in
-          let behind : longer ++ changing_after P (trace_from P T longer) lines ≡ doubt ++ (e ∷ changing_after P (after P there e.caller e.command) lines) =
+          let behind : longer ++ changing_after P (trace_from P T longer) lines ≡ doubt ++ (e ∷ changing_after P (after P (trace_from P T doubt) e.caller e.command) lines) =
           append_assoc doubt (e ∷ []) (changing_after P (trace_from P T longer) lines)
           ∙ ap (λ (U : Trace). doubt ++ (e ∷ changing_after P U lines)) (trace_append P T doubt (e ∷ [])) in (
             failing T n longer,
             inr (refl, refl, inr (record { doubt = doubt; failed = refl; some = some; would_change = is; joined = refl })),
-            subst (λ (d : History). StepEachAt P (failing T n longer) (all_stopped lines) (failing T n d)) (behind ∙ ap (λ (b : Bool). doubt ++ chosen b) (sym is))
+            subst (λ (d : History). StepEachAt P (failing T n longer) (all_stopped lines) (failing T n d)) (behind ∙ ap (λ (b : Bool). doubt ++ (if b then e ∷ changing_after P (after P (trace_from P T doubt) e.caller e.command) lines else changing_after P (trace_from P T doubt) lines)) (sym is))
             (others longer (some_longer doubt e)),
           )
       by others false is = (
         failing T n doubt,
         inr (refl, refl, inl refl),
-        subst (λ (d : History). StepEachAt P (failing T n doubt) (all_stopped lines) (failing T n d)) (ap (λ (b : Bool). doubt ++ chosen b) (sym is)) (others doubt some),
+        subst (λ (d : History). StepEachAt P (failing T n doubt) (all_stopped lines) (failing T n d)) (ap (λ (b : Bool). doubt ++ (if b then e ∷ changing_after P (after P (trace_from P T doubt) e.caller e.command) lines else changing_after P (trace_from P T doubt) lines)) (sym is)) (others doubt some),
       )
 
   breaks_at : (T : Trace) (n : ℕ) (e : Entry) (lines : List Entry) → changes (reply P T e.caller e.command) ≡ true
@@ -196,6 +184,9 @@ module _ (P : PlainPolicy) where
   append_at : (first mid last : Reached) (xs ys : List Answered) → StepEachAt P first xs mid → StepEachAt P mid ys last → StepEachAt P first (xs ++ ys) last
   append_at first mid last [] ys p q = subst (λ (s : Reached). StepEachAt P s ys last) (sym p) q
   append_at first mid last (x ∷ xs) ys p q = (p.0, p.1, append_at p.0 mid last xs ys p.2 q)
+
+one_more : (n : ℕ) → n + 1 ≡ suc n
+one_more n = omega arith
 
 -- ---- over a store
 
@@ -260,7 +251,7 @@ module _ {D : Type 0} (P : PlainPolicy) (T : Trace) (old new : Kept D) (lines : 
       → new.entries ≡ old.entries → new.mark ≡ Some (changing_after P U (take taken lines)) → changing_after P U (take (length ps) lines) ≡ []
       → changing_after P U (take (length ps + 1) lines) ≢ [] → StepEachAt P was (answered_so ends.DiskFault lines ps taken) (reached_by P T new)
   failed_at ps taken is few within same mark sure first =
-      let next : changing_after P U (take (suc (length ps)) lines) ≢ [] = subst (λ (n : ℕ). changing_after P U (take n lines) ≢ []) (omega arith) first in
+      let next : changing_after P U (take (suc (length ps)) lines) ≢ [] = subst (λ (n : ℕ). changing_after P U (take n lines) ≢ []) (one_more (length ps)) first in
       let f = first_at P U (length ps) taken lines few within sure next in
       let clean : Reached = record { actions = U; entries = count; failed = None } in
       let here : clean ≡ was = λ i. record { actions = U; entries = count; failed = sym none i } in

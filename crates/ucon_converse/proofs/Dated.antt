@@ -93,8 +93,7 @@ module _ (reads : PolicyReading) (P : PlainPolicy) (text : Bytes) (A B : Type 0)
     heard = h.heard;
     reached = h.reached;
     answered = each_as limit opening h.reached h.exchanges h.answered;
-    ends = ends_onto (λ s. s) limit (GivesReplyBy reads P text A) (GivesReplyBy reads P text B) (λ more. hears (lines_in h.exchanges ++ more))
-        (λ more. hears (lines_in h.exchanges ++ more)) (λ more heard. heard) h.reached last (λ line reply gives. answered_as h.reached last line reply gives) result h.ends;
+    ends = ends_as limit (λ more. hears (lines_in h.exchanges ++ more)) result h.reached last h.ends;
     output = h.output;
     told = h.told;
     among = h.among;

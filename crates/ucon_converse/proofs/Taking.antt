@@ -20,6 +20,9 @@ use Rattle.ucon_converse.specs.Replies.{GoesOn, Standing}
 use Rattle.ucon_converse.specs.Together.{IsNoneDueBefore, StepEach, answered_so, broken_off, is_answered, replied, unheard_first}
 use Rattle.ucon_converse.proofs.Batches.{at, breaks_off, first_of, steps_all, steps_append, steps_on}
 
+one_more : (n : ℕ) → n + 1 ≡ suc n
+one_more n = omega arith
+
 module _ {D : Type 0} (dated : Type 0) (P : PlainPolicy) (text : Bytes) (G : History) (points : List ℕ) (tried : ℕ) (old new : Kept D) (lines : List Entry) (none : old.mark ≡ None)
     (due : IsNoneDueBefore P tried (G ++ old.entries) (length lines)) where
   abbrev H : History
@@ -85,7 +88,7 @@ module _ {D : Type 0} (dated : Type 0) (P : PlainPolicy) (text : Bytes) (G : His
       → new.entries ≡ old.entries → new.mark ≡ Some (changing P H (take taken lines)) → changing P H (take (length ps) lines) ≡ []
       → changing P H (take (length ps + 1) lines) ≢ [] → Steps (answered_so ends.DiskFault lines ps taken) (stands G points tried new)
   failed_steps ps taken is few within same mark sure first =
-      let next : changing P H (take (suc (length ps)) lines) ≢ [] = subst (λ (n : ℕ). changing P H (take n lines) ≢ []) (omega arith) first in
+      let next : changing P H (take (suc (length ps)) lines) ≢ [] = subst (λ (n : ℕ). changing P H (take n lines) ≢ []) (one_more (length ps)) first in
       let f = first_of P H (length ps) taken lines few within sure next in
       let mid : Standing = at dated P text points tried H None in
       let doubt : new.mark ≡ Some (f.0 ∷ changing P (H ++ f.0 ∷ []) f.1) = mark ∙ ap Some f.4 in

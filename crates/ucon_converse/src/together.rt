@@ -163,27 +163,40 @@ pub(crate) fn put_answers(
     ensures text { OnOk result (ArePut (answered_in lines.now told.now) out.old.items out.new.items) }
     ensures count { IfOk result (λ n. n ≡ length (answered_in lines.now told.now)) }
 {
-    let count = told.placed.len();
     match told.end {
-        BatchEnd::All | BatchEnd::Full => {
-            put_replies(alloc, out, lines, &told.placed)?;
-            Ok(count)
-        }
+        BatchEnd::All => put_counted(alloc, out, lines, &told.placed),
+        BatchEnd::Full => put_counted(alloc, out, lines, &told.placed),
         BatchEnd::NoMemory(refused) => {
-            if count == 0 {
+            if told.placed.is_empty() {
                 put_answer(alloc, out, lines[0].caller, &Err(StepFault::NoMemory(refused)))?;
                 return Ok(1);
             }
-            put_replies(alloc, out, lines, &told.placed)?;
-            Ok(count)
+            put_counted(alloc, out, lines, &told.placed)
         }
         BatchEnd::DiskFault => {
-            put_replies(alloc, out, lines, &told.placed)?;
-            put_broken_off(alloc, out, &lines[count..told.taken])?;
+            let count = put_counted(alloc, out, lines, &told.placed)?;
+            let taken = &lines[..told.taken];
+            put_broken_off(alloc, out, &taken[count..])?;
             Ok(told.taken)
         }
         BatchEnd::Stopped => Ok(0),
     }
+}
+
+/// Adds the lines of replies, each of one request, and tells how many these are.
+fn put_counted(
+    alloc: Global,
+    out: &mut Vec<u8>,
+    lines: &[Entry],
+    placed: &[Placed],
+) -> Result<usize, NoMemory>
+    requires { length placed.now ≤ length lines.now }
+    ensures text { OnOk result (ArePut (replied lines.now placed.now) out.old.items out.new.items) }
+    ensures count { IfOk result (λ n. n ≡ length (replied lines.now placed.now)) }
+    ensures len { IfOk result (λ n. n ≡ length placed.now) }
+{
+    put_replies(alloc, out, lines, placed)?;
+    Ok(placed.len())
 }
 
 /// Adds the lines of replies, each of one request.
