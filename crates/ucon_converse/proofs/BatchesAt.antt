@@ -99,7 +99,7 @@ module _ (P : PlainPolicy) where
           → MayStop (behind_all x (if b then e ∷ [] else [])) last → StepEachAt P x (replied (e ∷ lines) (p ∷ [])) last
       by true is' told m' =
           let both : ◌≡◌ {A = ℕ × PlainReply} (p.place, reply_of p.reply) (x.entries + 1, reply P x.actions e.caller e.command) = cc told in
-          let stop : MayStop (behind_one x e) last = record { actions = m'.actions; entries = m'.entries; failed = m'.failed } in
+          let stop : MayStop (behind_one x e) last = record { actions = m'.actions; entries = let n = m'.entries in omega arith; failed = m'.failed } in
           (last, changed_step x none e p is' (ap (λ (z : ℕ × PlainReply). z.0) both) (ap (λ (z : ℕ × PlainReply). z.1) both) last stop, refl)
       by false is' told m' =
           let both : ◌≡◌ {A = ℕ × PlainReply} (p.place, reply_of p.reply) (x.entries, reply P x.actions e.caller e.command) = cc told in
