@@ -1,8 +1,8 @@
 -- From the opening of a journal to its closing: a conversation behind the history as which the file was found.
-use Rattle.std.proofs.Common.{⊎_elim, ◌≡◌, ◌⊎◌, true, false, ◌++◌, refl, sym, ap, subst, ◌∙◌, inl}
+use Rattle.std.proofs.Common.{⊎_elim, ◌≡◌, ◌⊎◌, true, false, ◌++◌, refl, sym, ap, subst, ◌∙◌, inl, inr}
 use Rattle.std.specs.Prelude.{Option, Some, None, is_some, IsSome, Result, ⊤}
 use Rattle.ucon_disk.specs.Causes.{raised}
-use Rattle.ucon_disk.specs.Run.{IsAtRest, LeavesAfter, LeavesOnly, joined, weaker}
+use Rattle.ucon_disk.specs.Run.{LeavesFrom, LeavesOnly, joined, weaker}
 use Rattle.ucon_disk.specs.Seen.{DiskSeen}
 use Rattle.ucon_model.specs.Action.{Trace}
 use Rattle.ucon_model.specs.History.{History}
@@ -43,7 +43,7 @@ met_so P text result opening last before now disk tells hears met h = record {
 }
 
 module _ {D : Type 0} (seen : D → DiskSeen) (text : Bytes) (P : PlainPolicy) (accepts : accepted text ≡ Some P) (disk : D) (store : Kept D)
-    (policy : store.policy ≡ text) (unmarked : store.mark ≡ None) (images_kept : LeavesAfter (seen disk) (seen store.disk) (Opens text))
+    (policy : store.policy ≡ text) (unmarked : store.mark ≡ None) (images_kept : LeavesFrom (seen disk) (seen store.disk) (Opens text))
     (unfailed : (seen store.disk).faults ≡ (seen disk).faults) (tells : is_some (seen store.disk).contents ≡ is_some (seen disk).contents)
     (now : D) (outcome : Outcome) (before after : VoiceSeen) (hears : Result (Unit {0}) TalkFault → Bytes → Type 0)
     (over : IsTalkedOver seen store now outcome before after hears) where
@@ -74,12 +74,16 @@ module _ {D : Type 0} (seen : D → DiskSeen) (text : Bytes) (P : PlainPolicy) (
     found_resting : (c : Bytes) → (seen store.disk).images c → IsFoundAs text c (G ++ store.entries)
     found_resting c image = subst (λ (t : Bytes). IsFoundAs t c (G ++ store.entries)) policy (found_founded seen P store G f told_opened c image)
 
-    since_opened : IsAtRest (seen disk) file → LeavesOnly (seen disk) (seen over.closed.disk) Since
-    since_opened rest =
-        joined (seen disk) (seen store.disk) (seen over.closed.disk) Since
-        (weaker (seen disk) (seen store.disk) (Opens text file) Since (λ c o. found_at_first c (o.same (G ++ store.entries) found)) (images_kept.each file rest))
-        (weaker (seen store.disk) (seen over.closed.disk) (λ c. (seen store.disk).images c ⊎ IsFoundBetween (whole G store) (whole G over.closed) c) Since
-        (λ c. ⊎_elim (λ image. found_at_first c (found_resting c image)) (found_between c)) (over.stays.left P G f told_opened))
+    abbrev SinceOr : Bytes → Type 0
+    SinceOr c = (seen disk).images c ⊎ Since c
+
+    since_opened : LeavesOnly (seen disk) (seen over.closed.disk) SinceOr
+    since_opened =
+        joined (seen disk) (seen store.disk) (seen over.closed.disk) SinceOr
+        (weaker (seen disk) (seen store.disk) (λ c. (seen disk).images c ⊎ Opens text file c) SinceOr
+        (λ c. ⊎_elim inl (λ o. inr (found_at_first c (o.same (G ++ store.entries) found)))) (images_kept.each file told))
+        (weaker (seen store.disk) (seen over.closed.disk) (λ c. (seen store.disk).images c ⊎ IsFoundBetween (whole G store) (whole G over.closed) c) SinceOr
+        (λ c. ⊎_elim (λ image. inr (found_at_first c (found_resting c image))) (λ b. inr (found_between c b))) (over.stays.left P G f told_opened))
 
     held : IsHeldBehindBy accepted text P file (G ++ store.entries) outcome (seen disk) (seen now) before after hears
     held =
@@ -95,7 +99,7 @@ module _ {D : Type 0} (seen : D → DiskSeen) (text : Bytes) (P : PlainPolicy) (
               (λ i. (policy i, unmarked i, sym over.disk_is i)) met;
           unfailed = λ none. ap (λ (d : D). (seen d).faults) over.disk_is ∙ (over.stays.unfailed (ap is_some (none ∙ sym unmarked)) ∙ unfailed);
           failed = λ es is. ap (λ (d : D). (seen d).faults) over.disk_is ∙ (over.stays.failed unmarked es is ∙ ap raised unfailed);
-          since = λ rest. subst (λ (d : D). LeavesOnly (seen disk) (seen d) Since) (sym over.disk_is) (since_opened rest);
+          since = subst (λ (d : D). LeavesOnly (seen disk) (seen d) SinceOr) (sym over.disk_is) since_opened;
           left = λ c image.
               subst (λ (t : Bytes). IsFoundMarked t (G ++ over.closed.entries) over.closed.mark c) (over.stays.policy ∙ policy)
               (over.stays.left_now P G f (over.stays.tells told_opened) c (subst (λ (d : D). (seen d).images c) over.disk_is image));
