@@ -5,6 +5,7 @@ pub mod Stepping
 pub mod OneClient
 pub mod Joining
 pub mod Together
+pub mod After
 pub mod Counting
 pub mod Starting
 pub mod Parts

@@ -4,6 +4,7 @@ pub mod Dividing
 pub mod Events
 pub mod Feeding
 pub mod Laws
+pub mod LegalAfter
 pub mod Shared
 pub mod Inbox
 pub mod Rule

@@ -2,10 +2,9 @@
 
 ghost use Rattle.std.specs.Prelude.{◌+◌, ◌++◌, ◌<◌, map};
 ghost use Rattle.ucon_model.specs.History.{History};
-ghost use Rattle.ucon_model.specs.Plain.{PlainPolicy};
 ghost use Rattle.ucon_store.specs.declared.event.Event.TheVariants.{Done};
-ghost use Rattle.ucon_client.specs.Answers.{IsLedTo, entry_of, answer_of};
-ghost use Rattle.ucon_client.specs.Clients.{Steps};
+ghost use Rattle.ucon_client.specs.Answers.{SaysFromBase, entry_of, answer_of};
+ghost use Rattle.ucon_client.specs.Clients.{Replies, Steps};
 
 use crate::answer::Answer;
 use crate::shared::Shared;
@@ -28,8 +27,8 @@ impl<E: Engine, D: Disk> Job<Shared<E, D>> for Step<'_> {
 
     ghost by = { λ j. j.line.now.caller.0 + 1 };
 
-    ghost did = { λ j b before after said k. (P : PlainPolicy) (G : History) → IsLedTo P b G
-        → Steps P (entry_of j.line.now) (map Done G ++ before) (map Done G ++ after) (answer_of said) };
+    ghost did = { λ j b before after said k. (says : Replies) (G : History) → SaysFromBase b says G
+        → Steps says (entry_of j.line.now) (map Done G ++ before) (map Done G ++ after) (answer_of said) };
 
     fn number(&self) -> u32 {
         self.line.caller.0 as u32 + 1

@@ -3,8 +3,7 @@ use Rattle.std.proofs.Common.{◌≡◌, ℕ, Bool, true, false, List, [], ◌�
 use Rattle.std.specs.Prelude.{◌<◌, ◌||◌, IsTrue, Option, Some, None, if◌then◌else◌, ⊤}
 use Rattle.std.specs.Option.{option_to_list}
 use Rattle.std.specs.List.{filter, list_any}
-use Rattle.std.specs.Bool.{OnFalse}
-use Rattle.std.proofs.lemmas.Bool.{OnFalse_from, false_from_ne_true, or_parts}
+use Rattle.std.proofs.lemmas.Bool.{false_from_ne_true, or_parts}
 use Rattle.ucon_base.specs.Elements.{Each, each_map}
 use Rattle.ucon_model.specs.declared.command.Caller.{Caller}
 use Rattle.ucon_model.specs.declared.command.Entry.{Entry}
@@ -12,6 +11,7 @@ use Rattle.ucon_model.specs.Action.{Trace}
 use Rattle.ucon_model.specs.Plain.{Bytes, PlainPolicy}
 use Rattle.ucon_model.specs.Output.{FitsLine, answers_read, output}
 use Rattle.ucon_model.specs.History.{History}
+use Rattle.ucon_client.specs.LegalAfter.{IsLegalRunAfter}
 use Rattle.ucon_model.specs.LegalRun.{Answered, no_memory, Saw, StaysStopped, AreInOrder, IsLegalRun, history_made, in_text_order, is_disk_fault, is_stopped}
 use Rattle.ucon_model.specs.StoredRun.{LeadsTo, failed_line}
 use Rattle.ucon_store.specs.Kept.{Kept}
@@ -21,7 +21,8 @@ use Rattle.ucon_store.specs.Whole.{IsFront, trace_behind, whole}
 use Rattle.ucon_client.specs.Clients.{faulted}
 use Rattle.ucon_trial.specs.Runs.{IsUnfaulted}
 use Rattle.ucon_top.specs.Serial.{AreSerialAfter}
-use Rattle.ucon_top.specs.Stepping.{AreAnswered, AreAnsweredAfter, HaveOutput, HaveSteps, IsRunBetween, entries_of_all}
+use Rattle.ucon_top.specs.Stepping.{AreAnswered, AreAnsweredAfter, HaveOutput, HaveSteps, IsRunAfter, IsRunBetween, entries_of_all}
+use Rattle.ucon_top.proofs.SerialLegal.{serial_legal}
 
 -- what the laws of runs over a store say
 pub record AreLegal : Type 0 where
@@ -67,6 +68,12 @@ module _ {D : Type 0} (laws : AreLegal) (P : PlainPolicy) where
     failed = steps.mark ∙ ap marked (sym (laws.failed P old.entries told new.entries steps.failed steps.leads));
   }
 
+  pub run_after_steps : (T : Trace) (old new : Kept D) (told : List Answered) → AreAnsweredAfter P T old new told → IsRunAfter in_text_order P T old new told
+  run_after_steps T old new told steps = record {
+    legal = serial_legal P (trace_behind P T old) (entries_of_all old) told steps.serial;
+    failed = steps.mark;
+  }
+
   -- where there is no room for the answers, there was no memory for any line
   unanswered_run : (sees : Caller → Caller → Bool) (store : Kept D) (lines : List Entry) → store.mark ≡ None
       → IsRunBetween sees P store store (map wants_memory lines)
@@ -83,16 +90,26 @@ module _ {D : Type 0} (laws : AreLegal) (P : PlainPolicy) where
         failed = none ∙ ap marked (sym (laws.failed P store.entries (map wants_memory lines) store.entries None run));
       }
 
-  pub unanswered : (sees : Caller → Caller → Bool) (threads : Bool) (store : Kept D) (lines : List Entry) → store.mark ≡ None
-      → AreAnswered sees threads P store store lines (λ told. ⊤)
-  unanswered sees threads store lines none = record {
+  unanswered_after : (sees : Caller → Caller → Bool) (store : Kept D) (lines : List Entry) → store.mark ≡ None → (T : Trace)
+      → IsRunAfter sees P T store store (map wants_memory lines)
+  unanswered_after sees store lines none T =
+      let legal = serial_legal P (trace_behind P T store) (entries_of_all store) (map wants_memory lines)
+      (serial_wanting P (trace_behind P T store) (entries_of_all store) lines) in record {
+        legal = record {
+          places = legal.places;
+          replies = legal.replies;
+          order = fewer_seen sees (map wants_memory lines) legal.order;
+          causes = legal.causes;
+        };
+        failed = none ∙ ap marked (sym (none_failed lines));
+      }
+
+  pub unanswered : (sees : Caller → Caller → Bool) (store : Kept D) (lines : List Entry) → store.mark ≡ None
+      → AreAnswered sees P store store lines (λ told. ⊤)
+  unanswered sees store lines none = record {
     told = map wants_memory lines;
     lines_are = lines_wanting lines;
-    serial = OnFalse_from threads ((T : Trace) → IsStart P store.point store.before T → AreAnsweredAfter P T store store (map wants_memory lines))
-        (λ _ T starts. record {
-          serial = serial_wanting P (trace_behind P T store) (entries_of_all store) lines;
-          mark = none ∙ ap marked (sym (none_failed lines));
-        });
+    after = λ T starts. unanswered_after sees store lines none T;
     run = λ G front. unanswered_run sees (whole G store) lines none;
     is_so = tt;
   }
@@ -113,8 +130,9 @@ each_unfaulted (t ∷ told) faults stops =
     let fault = or_parts (is_disk_fault t.answer) (list_any (λ t. is_disk_fault t.answer) told) faults in
     let stop = or_parts (is_stopped t.answer) (list_any (λ t. is_stopped t.answer) told) stops in ((fault.0, stop.0), each_unfaulted told fault.1 stop.1)
 
-pub none_faulted : (P : PlainPolicy) (sees : Caller → Caller → Bool) (G : History) (told : List Answered) → IsLegalRun P sees G told → failed_line told ≡ None → IsUnfaulted told
-none_faulted P sees G told legal none =
+pub none_faulted : (P : PlainPolicy) (sees : Caller → Caller → Bool) (T : Trace) (n : ℕ) (told : List Answered) → IsLegalRunAfter P sees T n told
+    → failed_line told ≡ None → IsUnfaulted told
+none_faulted P sees T n told legal none =
     let faults = no_fault told none in
     each_unfaulted told faults (false_from_ne_true (list_any (λ t. is_stopped t.answer) told)
     (λ stopped. let bad : true ≡ false = sym (legal.causes.by_fault stopped) ∙ faults in absurd (cc bad)))
@@ -125,24 +143,24 @@ abbrev pub AreReadBack : Type 0
 AreReadBack = (told : List Answered) → Each (λ t. FitsLine t.answer) told → Each (λ t. t.line.caller.0 < 256) told
     → answers_read (map (λ t. t.line) told) (output told) ≡ Some told
 
-module _ {D : Type 0} (sees : Caller → Caller → Bool) (threads : Bool) (P : PlainPolicy) (old new : Kept D) (lines : List Entry) (told : List Answered)
+module _ {D : Type 0} (sees : Caller → Caller → Bool) (P : PlainPolicy) (old new : Kept D) (lines : List Entry) (told : List Answered)
     (lines_are : map (λ (t : Answered). t.line) told ≡ lines)
-    (serial : OnFalse threads ((T : Trace) → IsStart P old.point old.before T → AreAnsweredAfter P T old new told))
+    (after : (T : Trace) → IsStart P old.point old.before T → IsRunAfter sees P T old new told)
     (run : (G : History) → IsFront P old G → IsRunBetween sees P (whole G old) (whole G new) told) where
   -- the output of answers is read back
   pub text_read : AreReadBack → (text : Bytes) → text ≡ output told → Each (λ t. FitsLine t.answer) told → Each (λ t. t.line.caller.0 < 256) told
-      → AreAnswered sees threads P old new lines (HaveOutput (λ out. out ≡ text) lines)
+      → AreAnswered sees P old new lines (HaveOutput (λ out. out ≡ text) lines)
   text_read back text is fits clients = record {
     told = told;
     lines_are = lines_are;
-    serial = serial;
+    after = after;
     run = run;
     is_so = (ap (λ (es : List Entry). answers_read es (output told)) (sym lines_are) ∙ back told fits clients, sym is);
   }
 
   -- answers that are not written
-  pub untold : AreAnswered sees threads P old new lines (λ told. ⊤)
-  untold = record { told = told; lines_are = lines_are; serial = serial; run = run; is_so = tt }
+  pub untold : AreAnswered sees P old new lines (λ told. ⊤)
+  untold = record { told = told; lines_are = lines_are; after = after; run = run; is_so = tt }
 
 -- ---- the line that failed
 

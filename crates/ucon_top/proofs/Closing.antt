@@ -40,19 +40,19 @@ marked_so outcomes.Done mark text stopped before now failed fails is w = no_mark
 marked_so outcomes.DiskFault mark text stopped before now failed fails is w = is ∙ w.0
 marked_so outcome mark text stopped before now failed fails is w = tt
 
-module _ {D : Type 0} (sees : Caller → Caller → Bool) (threads : Bool) (P : PlainPolicy) (store closed : Kept D) (lines : List Entry) (text : Bytes)
-    (stopped : Bool) (before now : Option Bytes) (failed fails : ℕ) (answers : AreAnswered sees threads P store closed lines (HaveOutput (λ out. out ≡ text) lines)) where
-  went_out : (so : Bytes → Type 0) → so text → AreAnswered sees threads P store closed lines (HaveOutput so lines)
+module _ {D : Type 0} (sees : Caller → Caller → Bool) (P : PlainPolicy) (store closed : Kept D) (lines : List Entry) (text : Bytes)
+    (stopped : Bool) (before now : Option Bytes) (failed fails : ℕ) (answers : AreAnswered sees P store closed lines (HaveOutput (λ out. out ≡ text) lines)) where
+  went_out : (so : Bytes → Type 0) → so text → AreAnswered sees P store closed lines (HaveOutput so lines)
   went_out so holds = record {
     told = answers.told;
     lines_are = answers.lines_are;
-    serial = answers.serial;
+    after = answers.after;
     run = answers.run;
     is_so = (answers.is_so.0, subst so (sym answers.is_so.1) holds);
   }
 
   pub ends_so : (outcome : Outcome) → IsWritten outcome text stopped before now failed fails
-      → AreAnswered sees threads P store closed lines (IsToldBy lines before now outcome)
+      → AreAnswered sees P store closed lines (IsToldBy lines before now outcome)
   ends_so outcomes.Done w = went_out (Appends before now) w.1.0
   ends_so outcomes.DiskFault w = went_out (Appends before now) w.1.0
   ends_so outcomes.SinkFault w = went_out (AppendsPrefix before now) w.1

@@ -8,6 +8,7 @@ pub mod Completing
 pub mod Crossing
 pub mod GeneratedPolicy
 pub mod Adding
+pub mod SerialLegal
 pub mod Refusing
 pub mod Serving
 pub mod Stepwise

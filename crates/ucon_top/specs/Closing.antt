@@ -49,9 +49,9 @@ module _ {D : Type 0} (seen : D → DiskSeen) where
     pub disk_is : disk ≡ closed.disk
 
   -- and the run over it ended so: the lines were answered, and where there was memory for it their output was written
-  pub record IsClosedRun (sees : Caller → Caller → Bool) (threads : Bool) (P : PlainPolicy) (store : Kept D) (lines : List Entry) (outcome : Outcome)
+  pub record IsClosedRun (sees : Caller → Caller → Bool) (P : PlainPolicy) (store : Kept D) (lines : List Entry) (outcome : Outcome)
       (disk : D) (before now : Option Bytes) : Type 0 where
     pub closed : Kept D
     pub closes : Closes store closed disk
     pub marked : IsMarkedBy outcome closed.mark
-    pub answered : AreAnswered sees threads P store closed lines (IsToldBy lines before now outcome)
+    pub answered : AreAnswered sees P store closed lines (IsToldBy lines before now outcome)

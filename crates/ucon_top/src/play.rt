@@ -1,6 +1,6 @@
 //! Plays a document over a journal.
 
-ghost use Rattle.std.specs.Prelude.{◌≡◌, ◌⊎◌, ◌≤◌, false, length, map, Some, None};
+ghost use Rattle.std.specs.Prelude.{◌≡◌, ◌⊎◌, ◌≤◌, length, map, Some, None};
 ghost use Rattle.ucon_disk.specs.Causes.{raised};
 ghost use Rattle.ucon_model.specs.LegalRun.{in_text_order};
 ghost use Rattle.ucon_model.specs.Plain.{PlainPolicy};
@@ -64,7 +64,7 @@ fn play_lines<E: Engine, K: Sink, D: Disk>(
     ensures status { result.status ≡ status_of result.outcome }
     ensures of_run { IsOfRun result.outcome }
     ensures run { (P : PlainPolicy) → accepted store.policy ≡ Some P
-        → IsClosedRun D.seen in_text_order false P store (map entry_of lines.now) result.outcome result.disk
+        → IsClosedRun D.seen in_text_order P store (map entry_of lines.now) result.outcome result.disk
         (K.seen out.old).contents (K.seen out.new).contents }
     ensures sink { IsCounted result.outcome Outcome.SinkFault (K.seen out.old).faults (K.seen out.new).faults }
     ensures unwritten { IsUnwritten result.outcome → out.new ≡ out.old }

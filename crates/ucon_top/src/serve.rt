@@ -1,13 +1,15 @@
 //! Serves a document over a journal: each client in a thread of its own.
 
-ghost use Rattle.std.specs.Prelude.{◌≡◌, ◌⊎◌, ◌<◌, ◌≤◌, true, length, map, Some, None};
+ghost use Rattle.std.specs.Prelude.{◌≡◌, ◌⊎◌, ◌<◌, ◌≤◌, length, map, Some, None};
 ghost use Rattle.ucon_base.specs.Elements.{Each};
 ghost use Rattle.ucon_disk.specs.Causes.{raised};
+ghost use Rattle.ucon_model.specs.Action.{Trace};
 ghost use Rattle.ucon_model.specs.History.{History};
 ghost use Rattle.ucon_model.specs.LegalRun.{own_answers};
 ghost use Rattle.ucon_model.specs.Plain.{PlainPolicy};
 ghost use Rattle.ucon_syntax.specs.Policies.{accepted};
 ghost use Rattle.ucon_store.specs.Kept.{Kept};
+ghost use Rattle.ucon_store.specs.Starts.{IsStart};
 ghost use Rattle.ucon_store.specs.Stays.{Stays};
 ghost use Rattle.ucon_store.specs.Whole.{IsFront, whole};
 ghost use Rattle.ucon_client.specs.Answers.{IsAnswered, told_in};
@@ -15,7 +17,7 @@ ghost use Rattle.ucon_client.specs.Dividing.{by_client};
 ghost use Rattle.ucon_top.specs.Closing.{IsClosedRun, IsOfRun};
 ghost use Rattle.ucon_top.specs.Ending.{IsCounted, IsOfAccepted, IsOfDocument, IsUntouched, IsUnwritten, MayEnd, status_of};
 ghost use Rattle.ucon_trial.specs.OneAnswer.{entry_of};
-ghost use Rattle.ucon_top.specs.Stepping.{IsRunBetween};
+ghost use Rattle.ucon_top.specs.Stepping.{IsRunAfter, IsRunBetween};
 ghost use Rattle.ucon_top.specs.OwnReading.{HasPlayed, IsAccepted, IsRefusedBy};
 
 use crate::document::read_accepted;
@@ -82,7 +84,7 @@ fn serve_lines<E: Engine + Send, K: Sink, D: Disk + Send, G: Gate + Sync, R: Thr
     ensures status { result.status ≡ status_of result.outcome }
     ensures of_run { IsOfRun result.outcome }
     ensures run { (P : PlainPolicy) → accepted store.policy ≡ Some P
-        → IsClosedRun D.seen own_answers true P store (by_client (map entry_of lines.now))
+        → IsClosedRun D.seen own_answers P store (by_client (map entry_of lines.now))
         result.outcome result.disk (K.seen out.old).contents (K.seen out.new).contents }
     ensures sink { IsCounted result.outcome Outcome.SinkFault (K.seen out.old).faults (K.seen out.new).faults }
     ensures unwritten { IsUnwritten result.outcome → out.new ≡ out.old }
@@ -110,8 +112,9 @@ fn end_served<E: Engine, K: Sink, D: Disk>(
     ensures status { result.status ≡ status_of result.outcome }
     ensures of_run { IsOfRun result.outcome }
     ensures run { (P : PlainPolicy) (opened : Kept D) → Stays D.seen opened store
+        → ((T : Trace) → IsStart P opened.point opened.before T → IsRunAfter own_answers P T opened store (told_in parts.now))
         → ((H : History) → IsFront P opened H → IsRunBetween own_answers P (whole H opened) (whole H store) (told_in parts.now))
-        → IsClosedRun D.seen own_answers true P opened (map (λ t. t.line) (told_in parts.now))
+        → IsClosedRun D.seen own_answers P opened (map (λ t. t.line) (told_in parts.now))
         result.outcome result.disk (K.seen out.old).contents (K.seen out.new).contents }
     ensures sink { IsCounted result.outcome Outcome.SinkFault (K.seen out.old).faults (K.seen out.new).faults }
     ensures unwritten { IsUnwritten result.outcome → out.new ≡ out.old }

@@ -1,6 +1,6 @@
 //! Answers lines over a store, one after the other.
 
-ghost use Rattle.std.specs.Prelude.{◌≡◌, false, map, Some, None, IfOk, OnErr, ⊤};
+ghost use Rattle.std.specs.Prelude.{◌≡◌, map, Some, None, IfOk, OnErr, ⊤};
 ghost use Rattle.ucon_model.specs.Action.{Trace};
 ghost use Rattle.ucon_model.specs.History.{History};
 ghost use Rattle.ucon_model.specs.LegalRun.{in_text_order};
@@ -32,10 +32,10 @@ pub fn steps_text<E: Engine, D: Disk>(
 ) -> Result<Vec<u8>, NoMemory>
     requires { store.old.mark ≡ None }
     ensures text { IfOk result (λ text. (P : PlainPolicy) → accepted store.old.policy ≡ Some P
-        → AreAnswered in_text_order false P store.old store.new (map entry_of lines.now)
+        → AreAnswered in_text_order P store.old store.new (map entry_of lines.now)
         (HaveOutput (λ out. out ≡ text.items) (map entry_of lines.now))) }
     ensures no_memory { OnErr result ((P : PlainPolicy) → accepted store.old.policy ≡ Some P
-        → AreAnswered in_text_order false P store.old store.new (map entry_of lines.now) (λ told. ⊤)) }
+        → AreAnswered in_text_order P store.old store.new (map entry_of lines.now) (λ told. ⊤)) }
     ensures stays { Stays D.seen store.old store.new }
 {
     outputs_are_read_back();

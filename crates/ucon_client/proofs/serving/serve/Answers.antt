@@ -4,15 +4,14 @@ use Rattle.ucon_base.specs.Elements.{Each}
 use Rattle.ucon_turn.specs.Lists.{Has}
 use Rattle.ucon_client.specs.declared.client.Client.{Client}
 use Rattle.ucon_client.specs.declared.part.Part.{Part}
-use Rattle.ucon_model.specs.History.{History}
-use Rattle.ucon_model.specs.LegalRun.{IsLegalRun, history_made, own_answers}
-use Rattle.ucon_model.specs.Plain.{PlainPolicy}
-use Rattle.ucon_client.specs.Answers.{IsAnswered, IsPart, asked, number, served_of, told_in}
-use Rattle.ucon_client.specs.Clients.{AreRising, faulted}
+use Rattle.ucon_model.specs.History.{History, said}
+use Rattle.ucon_model.specs.LegalRun.{Answered, history_made}
+use Rattle.ucon_client.specs.Answers.{IsAnswered, IsPart, SaysFrom, asked, number, served_of, told_in}
+use Rattle.ucon_client.specs.Clients.{AreRising, Replies, faulted}
 use Rattle.ucon_client.specs.Shared.{IsMarkOf, IsOfSteps}
-use Rattle.ucon_syntax.specs.Policies.{accepted}
 use Rattle.ucon_store.specs.Kept.{Kept}
-use Rattle.ucon_store.specs.Whole.{IsFront}
+use Rattle.ucon_client.proofs.After.{legal_behind_trace, legal_run, says_behind_history, so_behind_trace}
+use Rattle.ucon_client.proofs.Together.{IsRunBy}
 use Rattle.ucon_client.proofs.Ending.{asked_still, rising_still, back_still, each_part, closed_legal, lines_still, clients_told}
 use Rattle.ucon_client.proofs.serving.serve.Given.{Over}
 use Rattle.ucon_client.proofs.serving.serve.Goals.{After-close-shared}
@@ -69,34 +68,42 @@ close-shared-requires-clause-joined g c =
     subst (Each (Has taken)) (sym c.join_all.ensures.turn.2)
     (back_still c.join_all.new.parts.items c.args.parts.items c.seat_all.new.seat.given taken same c.seat_all.ensures.given c.join_all.ensures.back)
 
-module _ (g : Over) (c : After-close-shared g) (mark : IsOfSteps c.close-shared.result.mark) (P : PlainPolicy) (H : History)
-    (is : accepted c.args.store.policy ≡ Some P) (front : IsFront P c.args.store H) where
+module _ (g : Over) (c : After-close-shared g) (mark : IsOfSteps c.close-shared.result.mark) where
   abbrev Closed : Kept g.row.D.Denot
   Closed = c.close-shared.result
 
-  legal : IsLegalRun P own_answers (H ++ c.args.store.entries) (told_in c.join_all.new.parts.items)
-      × (history_made (H ++ c.args.store.entries) (told_in c.join_all.new.parts.items) ≡ H ++ Closed.entries)
-      × IsMarkOf Closed.mark (faulted (told_in c.join_all.new.parts.items))
-  legal =
+  abbrev Told : List Answered
+  Told = told_in c.join_all.new.parts.items
+
+  all_told : (says : Replies) (G : History) → SaysFrom c.args.store.policy c.args.store.point c.args.store.before says G
+      → IsRunBy says (G ++ c.args.store.entries) Told × (history_made (G ++ c.args.store.entries) Told ≡ G ++ Closed.entries) × IsMarkOf Closed.mark (faulted Told)
+  all_told says G from =
       let opened : Kept g.row.D.Denot = c.in-Ok-open.opened.0.opened in
       let same : opened ≡ c.args.store = c.in-Ok-open.ensures.turn.0 ∙ c.new.ensures in
-      closed_legal P H opened c.args.store Closed c.join_all.new.seat.seen c.join_all.new.seat.taken (map served_of c.join_all.new.parts.items)
-      same c.requires.unmarked (c.join_all.ensures.joined P H (ap (λ (s : Kept g.row.D.Denot). accepted s.policy) same ∙ is)
-      (subst (λ (s : Kept g.row.D.Denot). IsFront P s H) (sym same) front)) c.close-shared.ensures.list c.close-shared.ensures.callers mark
+      closed_legal says G opened c.args.store Closed c.join_all.new.seat.seen c.join_all.new.seat.taken (map served_of c.join_all.new.parts.items)
+      same c.requires.unmarked (c.join_all.ensures.joined says G
+      (subst (λ (s : Kept g.row.D.Denot). SaysFrom s.policy s.point s.before says G) (sym same) from)) c.close-shared.ensures.list c.close-shared.ensures.callers mark
 
 pub returns-clause-legal : goal.returns-clause-legal
 returns-clause-legal g c = λ P H is front.
-    (legal g (goal.at.returns-clause-legal g c).After-close-shared c.into_store-2.ensures.mark P H is front).0
+    legal_run P (H ++ c.args.store.entries) (told_in c.join_all.new.parts.items)
+    (all_told g (goal.at.returns-clause-legal g c).After-close-shared c.into_store-2.ensures.mark (said P) H (says_behind_history P c.args.store is H front)).0
 
 pub returns-clause-made : goal.returns-clause-made
 returns-clause-made g c = λ P H is front.
-    (legal g (goal.at.returns-clause-made g c).After-close-shared c.into_store-2.ensures.mark P H is front).1
+    (all_told g (goal.at.returns-clause-made g c).After-close-shared c.into_store-2.ensures.mark (said P) H (says_behind_history P c.args.store is H front)).1
     ∙ ap (λ (s : Kept g.row.D.Denot). H ++ s.entries) (sym c.into_store-2.ensures.store)
 
+pub returns-clause-legal_after : goal.returns-clause-legal_after
+returns-clause-legal_after g c = λ P T is starts.
+    legal_behind_trace P c.args.store is T starts (told_in c.join_all.new.parts.items)
+    (λ says G from. (all_told g (goal.at.returns-clause-legal_after g c).After-close-shared c.into_store-2.ensures.mark says G from).0)
+
 pub returns-clause-fault : goal.returns-clause-fault
-returns-clause-fault g c = λ P H is front.
+returns-clause-fault g c = λ P T is starts.
     subst (λ (s : Kept g.row.D.Denot). IsMarkOf s.mark (faulted (told_in c.join_all.new.parts.items))) (sym c.into_store-2.ensures.store)
-    (legal g (goal.at.returns-clause-fault g c).After-close-shared c.into_store-2.ensures.mark P H is front).2
+    (so_behind_trace P c.args.store is T starts (IsMarkOf c.close-shared.result.mark (faulted (told_in c.join_all.new.parts.items)))
+    (λ says G from. (all_told g (goal.at.returns-clause-fault g c).After-close-shared c.into_store-2.ensures.mark says G from).2))
 
 pub returns-clause-lines : goal.returns-clause-lines
 returns-clause-lines g c =

@@ -1,4 +1,4 @@
-use Rattle.std.proofs.Common.{false, ◌≡◌, List, map, refl, sym, ap, subst, ◌∙◌}
+use Rattle.std.proofs.Common.{◌≡◌, List, map, refl, sym, ap, subst, ◌∙◌}
 use Rattle.std.specs.Prelude.{Some}
 use Rattle.std.proofs.lemmas.Simd.{map-map}
 use Rattle.ucon_model.specs.declared.command.Entry.{Entry}
@@ -35,7 +35,7 @@ returns-in-Ok-open-clause-played g c =
     opened_so g.D.Disk.seen P text c.args.disk store accepts told.store told.since told.unfailed told.tells
     told.leads told.seen told.begins told.at_rest told.places told.records told.old told.founded in
     let same : map entry_of c.slice.result.now ≡ entries_of lines = ap (map entry_of) c.slice.ensures ∙ sym (map-map said_entry spelled_line c.in-Ok.script.lines.items) in
-    let run = subst (λ (es : List Entry). IsClosedRun g.D.Disk.seen in_text_order false P store es
+    let run = subst (λ (es : List Entry). IsClosedRun g.D.Disk.seen in_text_order P store es
     c.play_lines.result.outcome c.play_lines.result.disk (g.K.Sink.seen c.args.out.now).contents (g.K.Sink.seen c.play_lines.new.out).contents) same
     (c.play_lines.ensures.run P (ap accepted told.store.0 ∙ accepts)) in
     let laws = g.met.D.Disk in
@@ -53,7 +53,7 @@ returns-in-Ok-open-clause-fault g c = λ is.
     let lines = map entry_of c.slice.result.now in
     let reads : accepted store.policy ≡ Some P =
     ap accepted (told.store.0 ∙ c.policy_part.ensures) ∙ (c.accepted_texts_spell_typed_policies.ensures (policy_part bytes) P).1 (some.has_policy.spelled, some.has_policy.typed) in
-    let run = subst (λ (o : Outcome). IsClosedRun g.D.Disk.seen in_text_order false P store lines
+    let run = subst (λ (o : Outcome). IsClosedRun g.D.Disk.seen in_text_order P store lines
     o c.play_lines.result.disk (g.K.Sink.seen c.args.out.now).contents (g.K.Sink.seen c.play_lines.new.out).contents) is (c.play_lines.ensures.run P reads) in
-    run_raised g.D.Disk.seen in_text_order false P c.args.disk store told.store.2 told.unfailed lines
+    run_raised g.D.Disk.seen in_text_order P c.args.disk store told.store.2 told.unfailed lines
     c.play_lines.result.disk (g.K.Sink.seen c.args.out.now).contents (g.K.Sink.seen c.play_lines.new.out).contents run

@@ -32,8 +32,8 @@ returns-in-Ok-clause-run g c = λ P accepts.
       };
       marked = subst (λ (o : Outcome). IsMarkedBy o closed.mark) (sym c.by.ensures.outcome)
           (marked_so c.write_output.result closed.mark c.in-Ok.text.items stopped before now failed fails is_stopped written);
-      answered = subst (λ (o : Outcome). AreAnswered in_text_order false P store closed lines (IsToldBy lines before now o)) (sym c.by.ensures.outcome)
-          (ends_so in_text_order false P store closed lines c.in-Ok.text.items stopped before now failed fails (c.in-Ok.ensures.text P accepts) c.write_output.result written);
+      answered = subst (λ (o : Outcome). AreAnswered in_text_order P store closed lines (IsToldBy lines before now o)) (sym c.by.ensures.outcome)
+          (ends_so in_text_order P store closed lines c.in-Ok.text.items stopped before now failed fails (c.in-Ok.ensures.text P accepts) c.write_output.result written);
     }
 
 pub returns-in-Err-clause-run : goal.returns-in-Err-clause-run
@@ -49,7 +49,7 @@ returns-in-Err-clause-run g c = λ P accepts.
         disk_is = c.by-in-Err.ensures.disk ∙ c.close-disk.ensures.disk;
       };
       marked = subst (λ (o : Outcome). IsMarkedBy o closed.mark) (sym c.by-in-Err.ensures.outcome) tt;
-      answered = subst (λ (o : Outcome). AreAnswered in_text_order false P store closed lines (IsToldBy lines before before o)) (sym c.by-in-Err.ensures.outcome)
+      answered = subst (λ (o : Outcome). AreAnswered in_text_order P store closed lines (IsToldBy lines before before o)) (sym c.by-in-Err.ensures.outcome)
           (c.in-Err.ensures.no_memory P accepts);
     }
 

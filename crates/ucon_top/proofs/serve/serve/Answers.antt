@@ -1,4 +1,4 @@
-use Rattle.std.proofs.Common.{true, ◌≡◌, List, map, refl, sym, ap, subst, ◌∙◌}
+use Rattle.std.proofs.Common.{◌≡◌, List, map, refl, sym, ap, subst, ◌∙◌}
 use Rattle.std.specs.Prelude.{Some}
 use Rattle.std.proofs.lemmas.Simd.{map-map}
 use Rattle.ucon_model.specs.declared.command.Entry.{Entry}
@@ -35,9 +35,9 @@ returns-in-Ok-open-clause-played g c =
     let same : map entry_of c.slice.result.now ≡ entries_of said = ap (map entry_of) c.slice.ensures ∙ sym (map-map said_entry spelled_line lines) in
     let opened : IsOpened g.D.Disk.seen P text c.args.disk store =
     opened_so g.D.Disk.seen P text c.args.disk store accepts e.store e.since e.unfailed e.tells e.leads e.seen e.begins e.at_rest e.places e.records e.old e.founded in
-    let run : IsClosedRun g.D.Disk.seen own_answers true P store (by_client (entries_of said))
+    let run : IsClosedRun g.D.Disk.seen own_answers P store (by_client (entries_of said))
     c.serve_lines.result.outcome c.serve_lines.result.disk (g.K.Sink.seen c.args.out.now).contents (g.K.Sink.seen c.serve_lines.new.out).contents =
-    subst (λ (es : List Entry). IsClosedRun g.D.Disk.seen own_answers true P store (by_client es)
+    subst (λ (es : List Entry). IsClosedRun g.D.Disk.seen own_answers P store (by_client es)
     c.serve_lines.result.outcome c.serve_lines.result.disk (g.K.Sink.seen c.args.out.now).contents (g.K.Sink.seen c.serve_lines.new.out).contents) same
     (c.serve_lines.ensures.run P (ap accepted e.store.0 ∙ accepts)) in
     let laws = g.met.D.Disk g.world.𝓛 g.world.𝓜 g.world.𝓡 ((λ s x. x), (λ x. x), (λ x. x), (λ x. x)) in
@@ -57,7 +57,7 @@ returns-in-Ok-open-clause-fault g c = λ is.
     let before = (g.K.Sink.seen c.args.out.now).contents in
     let now = (g.K.Sink.seen c.serve_lines.new.out).contents in
     let lines = by_client (map entry_of c.slice.result.now) in
-    run_raised g.D.Disk.seen own_answers true P c.args.disk store e.store.2 e.unfailed lines
+    run_raised g.D.Disk.seen own_answers P c.args.disk store e.store.2 e.unfailed lines
     c.serve_lines.result.disk before now
-    (subst (λ (o : Outcome). IsClosedRun g.D.Disk.seen own_answers true P store lines
+    (subst (λ (o : Outcome). IsClosedRun g.D.Disk.seen own_answers P store lines
     o c.serve_lines.result.disk before now) is (c.serve_lines.ensures.run P accepts))

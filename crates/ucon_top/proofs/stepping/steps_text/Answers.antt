@@ -1,11 +1,11 @@
-use Rattle.std.proofs.Common.{false, map, sym, subst}
+use Rattle.std.proofs.Common.{map, sym, subst}
 use Rattle.std.specs.Prelude.{Result, Ok, Err, OnErr, ⊤}
 use Rattle.ucon_model.specs.LegalRun.{in_text_order}
 use Rattle.ucon_store.specs.Kept.{Kept}
 use Rattle.ucon_store.specs.Whole.{whole}
 use Rattle.ucon_trial.specs.OneAnswer.{entry_of}
 use Rattle.ucon_top.specs.Stepping.{AreAnswered, told_line}
-use Rattle.ucon_top.proofs.Answering.{AreLegal, run_of_steps, text_read, unanswered, untold}
+use Rattle.ucon_top.proofs.Answering.{AreLegal, run_after_steps, run_of_steps, text_read, unanswered, untold}
 use Rattle.ucon_top.proofs.stepping.steps_text.Goals as goal
 
 pub returns-clause-text : goal.returns-clause-text
@@ -17,8 +17,8 @@ returns-clause-text g c = λ P accepts.
     let told = map told_line c.in_ok-answered.answered.items in
     let old = c.args.store.now in
     let new = c.answer_lines.new.store in
-    text_read in_text_order false P old new lines told c.in_ok-answered.ensures.lines
-    (λ T starts. (c.in_ok-answered.ensures.serial P T accepts starts).answers)
+    text_read in_text_order P old new lines told c.in_ok-answered.ensures.lines
+    (λ T starts. run_after_steps laws P T old new told (c.in_ok-answered.ensures.serial P T accepts starts).answers)
     (λ G front. run_of_steps laws P (whole G old) (whole G new) lines told (c.in_ok-answered.ensures.steps P G accepts front))
     c.outputs_are_read_back.ensures _
     (rw c.slice.ensures at answers.text) (rw c.slice.ensures at answers.fits) (rw c.slice.ensures at answers.clients)
@@ -34,8 +34,8 @@ returns-in_err-answered-clause-no_memory g c =
     let lines = map entry_of c.args.lines.now in
     let old = c.args.store.now in
     on_err c.from_residual.result _ (λ P accepts.
-    subst (λ (new : Kept g.row.D.Denot). AreAnswered in_text_order false P old new lines (λ told. ⊤)) (sym c.in_err-answered.ensures.err)
-    (unanswered laws P in_text_order false old lines c.requires))
+    subst (λ (new : Kept g.row.D.Denot). AreAnswered in_text_order P old new lines (λ told. ⊤)) (sym c.in_err-answered.ensures.err)
+    (unanswered laws P in_text_order old lines c.requires))
 
 pub returns-in_err-text-clause-no_memory : goal.returns-in_err-text-clause-no_memory
 returns-in_err-text-clause-no_memory g c =
@@ -46,6 +46,6 @@ returns-in_err-text-clause-no_memory g c =
     let old = c.args.store.now in
     let new = c.answer_lines.new.store in
     on_err c.from_residual-in_err-text.result _ (λ P accepts.
-    untold in_text_order false P old new lines told c.in_ok-answered.ensures.lines
-    (λ T starts. (c.in_ok-answered.ensures.serial P T accepts starts).answers)
+    untold in_text_order P old new lines told c.in_ok-answered.ensures.lines
+    (λ T starts. run_after_steps laws P T old new told (c.in_ok-answered.ensures.serial P T accepts starts).answers)
     (λ G front. run_of_steps laws P (whole G old) (whole G new) lines told (c.in_ok-answered.ensures.steps P G accepts front)))

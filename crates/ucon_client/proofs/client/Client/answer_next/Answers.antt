@@ -42,12 +42,12 @@ returns-clause-serves g c =
         first = search rules;
         room = search rules;
       };
-      right = λ P G is front.
+      right = λ says G from.
           let done : List Event = map Done G in
-          let step = d.3 P G (record { accepts = is; starts = front.starts; count = front.count; text = front.text }) in
-          subst (λ (z : ℕ × List Answered). AreRight P z.0 (G ++ c.args.turn.now.opened.entries) (done ++ seen) z.1) (λ i. (sym kept.0 i, sym told i))
-          (stays_right P was.number (G ++ c.args.turn.now.opened.entries) (done ++ seat.seen) (done ++ d.0) (done ++ seen) (told_of was) (entry_of line)
-          (answer_of a) seat.number seat.taken (s.right P G is front) own (inl (sym s.number))
+          let step = d.3 says G from in
+          subst (λ (z : ℕ × List Answered). AreRight says z.0 (G ++ c.args.turn.now.opened.entries) (done ++ seen) z.1) (λ i. (sym kept.0 i, sym told i))
+          (stays_right says was.number (G ++ c.args.turn.now.opened.entries) (done ++ seat.seen) (done ++ d.0) (done ++ seen) (told_of was) (entry_of line)
+          (answer_of a) seat.number seat.taken (s.right says G from) own (inl (sym s.number))
           (continues_behind (ByOthers number_of seat.number seat.taken) done seat.seen d.0 d.1) step);
     }
 
@@ -64,5 +64,5 @@ returns-clause-answers g c =
       next = at;
       answers = c.add.ensures.answers;
       others = d.1;
-      step = λ P G is front. d.3 P G (record { accepts = is; starts = front.starts; count = front.count; text = front.text });
+      step = λ says G from. d.3 says G from;
     }
