@@ -13,7 +13,7 @@ use Rattle.ucon_model.specs.declared.command.Entry.{Entry}
 use Rattle.ucon_model.specs.History.{History, changes, said, trace, trace_from}
 use Rattle.ucon_client.specs.LegalAfter.{IsLegalRunAfter, IsSaidAfter}
 use Rattle.ucon_model.specs.LegalRun.{Answer, Answered, AreNumberedFrom, IsLegalRun, IsSaid, by_place, disk_fault, history_made, is_disk_fault, no_memory, own_answers, placed, recorded, stands_on, stopped}
-use Rattle.ucon_model.specs.Plain.{PlainPolicy}
+use Rattle.ucon_model.specs.Plain.{PlainPolicy, PlainReply}
 use Rattle.ucon_store.specs.Kept.{Kept}
 use Rattle.ucon_store.specs.Starts.{IsStart}
 use Rattle.ucon_store.specs.Whole.{IsFront}
@@ -50,17 +50,17 @@ trace_append P T (e ∷ H) later = trace_append P (after P T e.caller e.command)
 abbrev made_by : List Answered → History
 made_by told = map (λ (x : ℕ × Entry). x.1) (by_place (recorded told))
 
-take_behind : (front es : History) (k : ℕ) → length front ≤ k → take k (front ++ es) ≡ front ++ take (k - length front) es
-take_behind [] es k le = ap (λ (n : ℕ). take n es) (omega arith)
-take_behind (e ∷ front) es zero le = absurd (omega (arith, le))
-take_behind (e ∷ front) es (suc k) le = ap (λ (l : History). e ∷ l) (take_behind front es k (omega (arith, le)))
+take_behind : (front es : History) (k m : ℕ) → k ≡ length front + m → take k (front ++ es) ≡ front ++ take m es
+take_behind [] es k m is = ap (λ (n : ℕ). take n es) (omega (arith, is))
+take_behind (e ∷ front) es zero m is = absurd (omega (arith, is))
+take_behind (e ∷ front) es (suc k) m is = ap (λ (l : History). e ∷ l) (take_behind front es k m (omega (arith, is)))
 
 module _ (says : Replies) (P : PlainPolicy) (T : Trace) (G H : History)
     (agree : (K : History) (caller : Caller) (c : Command) → says (G ++ K) caller c ≡ reply P (trace_from P T K) caller c) where
   abbrev front : History
+  front = G ++ H
 
   abbrev opened : Trace
-  front = G ++ H
   opened = trace_from P T H
 
   says_behind : (es : History) (caller : Caller) (c : Command) → says (front ++ es) caller c ≡ reply P (trace_from P opened es) caller c
@@ -71,7 +71,7 @@ module _ (says : Replies) (P : PlainPolicy) (T : Trace) (G H : History)
   said_after es line (placed place r) is = (
     is.0,
     omega (arith, is.1, length-append front es),
-    is.2 ∙ (ap (λ (K : History). says K line.caller line.command) (take_behind front es (stands_on place r) is.0)
+    is.2 ∙ (ap (λ (K : History). says K line.caller line.command) (take_behind front es (stands_on place r) (stands_on place r - length front) (omega (arith, is.0)))
         ∙ says_behind (take (stands_on place r - length front) es) line.caller line.command),
   )
   said_after es line no_memory is = tt
@@ -89,7 +89,7 @@ module _ (says : Replies) (P : PlainPolicy) (T : Trace) (G H : History)
           once = run.once;
           would_change = each_map (λ (t : Answered). IsTrue (is_disk_fault t.answer) → IsTrue (changes (says (front ++ es) t.line.caller t.line.command)))
               (λ (t : Answered). IsTrue (is_disk_fault t.answer) → IsTrue (changes (reply P (trace_from P opened es) t.line.caller t.line.command)))
-              (λ t each fault. subst (λ r. IsTrue (changes r)) (says_behind es t.line.caller t.line.command) (each fault)) told run.would_change;
+              (λ t each fault. subst (λ (r : PlainReply). IsTrue (changes r)) (says_behind es t.line.caller t.line.command) (each fault)) told run.would_change;
           by_fault = run.by_fault;
         };
       }
@@ -105,7 +105,7 @@ module _ (P : PlainPolicy) (T : Trace) (n : ℕ) where
       ap (λ (m : ℕ). reply P (trace_from P T (drop m (G ++ K))) caller c) (sym long) ∙ ap (λ (l : History). reply P (trace_from P T l) caller c) (drop-append_seam G K)
 
 -- a history of this length, of no matter which entries
-as_long : ℕ → History
+abbrev as_long : ℕ → History
 as_long zero = []
 as_long (suc n) = record { caller = record { 0 = 0 }; command = Look 0 } ∷ as_long n
 
