@@ -1,7 +1,7 @@
 //! The status board: one writer publishes what replies change, and readers look at it without a turn.
 //!
-//! The form `board` answers looks by it, and a program that embeds the monitor may. A look gives the place, and a session's state, after a list of replies that
-//! begins with all that this reader knew. Two copies of what is shown stand beside a history without bytes.
+//! The form `board` answers looks by it, and a program that embeds the monitor may. A look gives the place, and a session's state, after a list of
+//! replies that begins with all that this reader knew. Two copies of what is shown stand beside a history without bytes.
 //!
 //! **Always.** What is shown is what its history makes (`Keeps`).
 //!

@@ -27,8 +27,8 @@ pub struct Client<E: Engine, D: Disk> {
 }
 
 impl<E: Engine, D: Disk> Client<E, D> {
-    /// A client none of whose lines is answered, with a seat that has seen nothing yet but the opening list, and a reader that has read nothing yet
-    /// but the board as it was opened.
+    /// A client none of whose lines is answered, with a seat that has seen nothing yet but the opening list. If it has a reader, that has read nothing
+    /// yet but the board as it was opened.
     pub fn new(
         alloc: Global,
         turn: &Turn<Boarded<E, D>>,

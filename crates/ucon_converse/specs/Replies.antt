@@ -164,8 +164,8 @@ pub record IsAskedForPoint (P : PlainPolicy) (text : Bytes) (old : Type 0) (befo
   pub pointed : IsPointed old P text before after said
   pub reply_is : reply ≡ point_line said
 
--- A line was given this reply, which led from here to there, behind a history that began under a policy of this text, in a journal that is an old one if
--- this is so.
+-- A line was given this reply, which led from here to there, behind a history that began under a policy of this text. The journal is an old one if this
+-- is so.
 abbrev pub GivesReplyBy : PolicyReading → PlainPolicy → Bytes → Type 0 → Standing → Standing → Bytes → Bytes → Type 0
 GivesReplyBy reads P text old before after line reply =
     IsAskedAndAnswered reads P text old before after line reply ⊎ IsRefused reads before after line reply ⊎ IsUnjudged reads before after line reply

@@ -62,8 +62,8 @@ pub record IsAnsweredInOrder (P : PlainPolicy) (T : Trace) (entries : ℕ) (old 
   pub failed : (e : Entry) → failed_line told ≡ Some e → new.faults ≡ raised old.faults
 
 -- The bytes are an accepted document, and the document's lines were answered. Of the lines and their answers this is so, whatever the disk tells.
--- If the disk told its file, opening saw a fresh one, or a journal under the document's policy, and in it so many entries, and what is there after
--- these actions. Without threads the lines were answered after those, and the answers have these causes: so it is also of a file that opening
+-- If the disk told its file, opening saw a fresh one, or a journal under the document's policy. In it were so many entries, and what is there after
+-- these actions. Without threads the lines were answered after those, and the answers have these causes. That holds also of a file that opening
 -- alone accepts, and of a disk that tells nothing. The records of the file are kept. If it is found as a history, the lines were played behind
 -- that.
 pub record IsRunOverBy (reads : PolicyReading) (form : Form) (bytes : Bytes) (old new : DiskSeen) (causes : List Answered → Type 0)
