@@ -21,7 +21,7 @@ use Rattle.ucon_store.specs.Pointing.{HasFailedPoint, IsFoundPointed, IsSameStor
 use Rattle.ucon_store.specs.Points.{SameKind, checkpoint, has_points, point_places, text_behind, text_in_force}
 use Rattle.ucon_store.specs.Starts.{IsStart, checkpoint_behind, text_at_start}
 use Rattle.ucon_store.specs.Stays.{Stays}
-use Rattle.ucon_store.specs.Steps.{AddsAtMost}
+use Rattle.ucon_store.specs.Steps.{AddsAtMost, AddsTogether}
 use Rattle.ucon_store.specs.Whole.{IsFounded, IsFront}
 use Rattle.ucon_converse.specs.declared.points.Points.{Points}
 use Rattle.ucon_converse.specs.Answering.{Answering, answering}
@@ -109,13 +109,13 @@ both_left old new P Q p q = record {
   before = λ t c le since. ⊎_elim inl (λ x. ⊎_elim inl (λ y. inr (x, y)) (q.before t c le since)) (p.before t c le since);
 }
 
-kind_added : (payload file c : Bytes) → AddsAtMost payload file c → has_points c ≡ has_points file
-kind_added payload file c adds = ap (λ (m : Bytes). bytes_eq m (magic 2)) adds.magic
+kind_added : (added : List Bytes) (file c : Bytes) → AddsTogether added file c → has_points c ≡ has_points file
+kind_added added file c adds = ap (λ (m : Bytes). bytes_eq m (magic 2)) adds.magic
 
-first_added : (text payload file c : Bytes) → AddsAtMost payload file c → HasFirst text file → HasFirst text c
-first_added text payload file c adds first = ⊎_elim
+first_added : (text : Bytes) (added : List Bytes) (file c : Bytes) → AddsTogether added file c → HasFirst text file → HasFirst text c
+first_added text added file c adds first = ⊎_elim
     (λ (same : counted c ≡ counted file). (first.0, same ∙ first.1))
-    (λ (more : counted c ≡ counted file ++ payload ∷ []). (first.0 ++ payload ∷ [], more ∙ ap (λ (l : List Bytes). l ++ payload ∷ []) first.1)) adds.payloads
+    (λ (more : counted c ≡ counted file ++ added). (first.0 ++ added, more ∙ ap (λ (l : List Bytes). l ++ added) first.1)) adds.payloads
 
 told_is : (o : Option Bytes) → IsSome o → (file : Bytes) × (o ≡ Some file)
 told_is None some = absurd (let no : false ≡ true = some in cc no)
@@ -131,16 +131,16 @@ if_told o A file is h = let there : IfSome (Some file) A = subst (λ (p : Option
 module _ {D : Type 0} (seen : D → DiskSeen) (only : (d : D) (c : List ℕ) → (seen d).images_since (seen d).moment c → (seen d).images c)
     (read : (d : D) → IfSome (seen d).contents (seen d).images)
     (counts : (d : D) (t : ℕ) (c : List ℕ) → t ≤ (seen d).moment → (seen d).images c → (seen d).images_since t c) where
-  -- a run that adds a payload at most leaves the journal of its version
-  same_kind_by : (old new : D) (payload : Bytes) → ((file : Bytes) → (seen old).contents ≡ Some file → LeavesOnly (seen old) (seen new) (AddsAtMost payload file))
+  -- a run that adds payloads at most leaves the journal of its version
+  same_kind_by : (old new : D) (added : List Bytes) → ((file : Bytes) → (seen old).contents ≡ Some file → LeavesOnly (seen old) (seen new) (AddsTogether added file))
       → SameKind (seen old).contents (seen new).contents
-  same_kind_by old new payload adds = by (seen old).contents (seen new).contents refl (read new)
+  same_kind_by old new added adds = by (seen old).contents (seen new).contents refl (read new)
     where
       by : (o p : Option Bytes) → (seen old).contents ≡ o → IfSome p (seen new).images → SameKind o p
       by None p is image = tt
       by (Some file) None is image = tt
       by (Some file) (Some now) is image =
-          let run = adds file is in kind_added payload file now (run.each now (counts new (seen old).moment now run.later image))
+          let run = adds file is in kind_added added file now (run.each now (counts new (seen old).moment now run.later image))
 
   -- ---- over a step
 
@@ -154,16 +154,16 @@ module _ {D : Type 0} (seen : D → DiskSeen) (only : (d : D) (c : List ℕ) →
     pub keeps_nothing : new ≡ old → Keeps seen Was Is
     keeps_nothing same = subst (λ (s : Kept D). Keeps seen Was (record { store = s; made = made; tried = tried })) (sym same) (keeps_same seen only Was)
 
-    -- a payload at most was added, which is no checkpoint
-    pub keeps_step : (payload : Bytes) → ((file c : Bytes) → AddsAtMost payload file c → point_places c ≡ point_places file) → Stays seen old new
+    -- these payloads were added together at most, of which none is a checkpoint
+    pub keeps_steps : (added : List Bytes) → ((file c : Bytes) → AddsTogether added file c → point_places c ≡ point_places file) → Stays seen old new
         → ((es : History) → old.mark ≡ Some es → new ≡ old)
-        → ((file : Bytes) → old.mark ≡ None → (seen old.disk).contents ≡ Some file → LeavesOnly (seen old.disk) (seen new.disk) (AddsAtMost payload file))
+        → ((file : Bytes) → old.mark ≡ None → (seen old.disk).contents ≡ Some file → LeavesOnly (seen old.disk) (seen new.disk) (AddsTogether added file))
         → old.mark ≡ None → Keeps seen Was Is
-    keeps_step payload same stays still adds none = record {
+    keeps_steps added same stays still adds none = record {
       stays = stays;
       later = moments_rise (seen old.disk) (seen new.disk) (λ file told. (adds file none told).later) stays.tells;
       still = λ es is. λ i. record { store = still es is i; made = made; tried = tried };
-      kind = same_kind_by old.disk new.disk payload (λ file told. adds file none told);
+      kind = same_kind_by old.disk new.disk added (λ file told. adds file none told);
       made = begins_refl made;
       points = points;
     }
@@ -174,10 +174,10 @@ module _ {D : Type 0} (seen : D → DiskSeen) (only : (d : D) (c : List ℕ) →
             let run = adds told.0 none told.1 in
             let at : HasFirst old.policy told.0 × (point_places told.0 ≡ places ++ made) =
             left_founded seen only P Was G places f told.0 (if_told (seen old.disk).contents (seen old.disk).images told.0 told.1 (read old.disk)) in
-            let there : (c : Bytes) → AddsAtMost payload told.0 c → HasFirst old.policy c × (point_places c ≡ places ++ made) =
-            λ c a. (first_added old.policy payload told.0 c a at.0, same told.0 c a ∙ at.1) in
+            let there : (c : Bytes) → AddsTogether added told.0 c → HasFirst old.policy c × (point_places c ≡ places ++ made) =
+            λ c a. (first_added old.policy added told.0 c a at.0, same told.0 c a ∙ at.1) in
             record {
-              since = weaker (seen old.disk) (seen new.disk) (AddsAtMost payload told.0) (HasPointsPast old.policy (places ++ made))
+              since = weaker (seen old.disk) (seen new.disk) (AddsTogether added told.0) (HasPointsPast old.policy (places ++ made))
                   (λ c a.
                   let h = there c a in
                   record { recorded = h.0; kept = subst (λ (l : List ℕ). Begins (places ++ made) l) (sym h.1) (begins_refl (places ++ made)) }) run;
@@ -205,7 +205,7 @@ module _ {D : Type 0} (seen : D → DiskSeen) (only : (d : D) (c : List ℕ) →
       stays = stays;
       later = moments_rise (seen old.disk) (seen new.disk) (λ file told. (adds file told).later) stays.tells;
       still = λ es is. let no : None ≡ Some es = sym none ∙ is in absurd (cc no);
-      kind = same_kind_by old.disk new.disk payload adds;
+      kind = same_kind_by old.disk new.disk (payload ∷ []) adds;
       made = more said;
       points = λ P G places f.
           let told = told_is (seen old.disk).contents f.told in
@@ -217,13 +217,13 @@ module _ {D : Type 0} (seen : D → DiskSeen) (only : (d : D) (c : List ℕ) →
             since = weaker (seen old.disk) (seen new.disk)
                 (λ c. AddsAtMost payload told.0 c × IsFoundPointed old.policy (G ++ old.entries) (point_places told.0) c) (HasPointsPast old.policy (places ++ points.made))
                 (λ c h. record {
-                  recorded = first_added old.policy payload told.0 c h.0 at.0;
+                  recorded = first_added old.policy (payload ∷ []) told.0 c h.0 at.0;
                   kept = past (places ++ points.made) (point_places told.0) (length (G ++ old.entries)) c at.1 h.1.1;
                 })
                 (both_left (seen old.disk) (seen new.disk) (AddsAtMost payload told.0) (IsFoundPointed old.policy (G ++ old.entries) (point_places told.0)) run found);
             now = λ c image.
                 let since = counts new.disk (seen old.disk).moment c run.later image in (
-                  subst (λ (text : Bytes). HasFirst text c) (sym stays.policy) (first_added old.policy payload told.0 c (run.each c since) at.0),
+                  subst (λ (text : Bytes). HasFirst text c) (sym stays.policy) (first_added old.policy (payload ∷ []) told.0 c (run.each c since) at.0),
                   places_now P G places f told.0 told.1 at.1 c (found.each c since).1 image said same failed rest added pointed,
                 );
           };

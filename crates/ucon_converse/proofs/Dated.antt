@@ -8,12 +8,14 @@ use Rattle.ucon_store.specs.declared.fault.PointFault.{PointFault}
 use Rattle.ucon_store.specs.declared.fault.PointFault.TheVariants as faults
 use Rattle.ucon_store.specs.Points.{PolicyReading, SameKind}
 use Rattle.ucon_tell.specs.Seen.{VoiceSeen}
-use Rattle.ucon_tell.specs.Talk.{AnswersEach, Exchange, lines_in}
+use Rattle.ucon_tell.specs.Talk.{ends_by}
+use Rattle.ucon_tell.specs.Told.{Told}
+use Rattle.ucon_converse.specs.Exchanges.{AnswersEach, Exchange, lines_in}
 use Rattle.ucon_tell.specs.declared.talk_fault.TalkFault.{TalkFault}
+use Rattle.ucon_tell.specs.declared.talk_fault.TalkFault.TheVariants as talks
 use Rattle.ucon_converse.specs.Conversation.{HasConversedBy}
 use Rattle.ucon_converse.specs.Keeping.{IsDated}
-use Rattle.ucon_converse.specs.Replies.{GivesReplyBy, GoesOn, IsPointed, IsTooLong, Rests, Standing}
-use Rattle.ucon_converse.proofs.Untold.{ends_onto}
+use Rattle.ucon_converse.specs.Replies.{AreGivenBy, GivesReplyBy, GoesOn, IsPointed, IsTooLong, Rests, Standing}
 
 -- a journal that is an old one was one before
 pub dated_before : (o p : Option Bytes) → (IsSome o → IsSome p) → SameKind o p → IsDated p → IsDated o
@@ -55,6 +57,10 @@ module _ (reads : PolicyReading) (P : PlainPolicy) (text : Bytes) (A B : Type 0)
   answered_as before after line reply (inr (inr (inr (inr a)))) =
       inr (inr (inr (inr (record { asks = a.asks; said = a.said; pointed = pointed_as before after a.said a.pointed; reply_is = a.reply_is }))))
 
+  pub given_as : (before after : Standing) (told : List Told) → AreGivenBy reads P text A before after told → AreGivenBy reads P text B before after told
+  given_as before after [] is = is
+  given_as before after (t ∷ told) is = (is.0, answered_as before is.0 t.line t.reply is.1, given_as is.0 after told is.2)
+
   pub each_as : (limit : ℕ) (first last : Standing) (xs : List (Exchange Standing)) → AnswersEach limit (GivesReplyBy reads P text A) IsTooLong first xs last
       → AnswersEach limit (GivesReplyBy reads P text B) IsTooLong first xs last
   each_as limit first last [] run = run
@@ -68,6 +74,16 @@ module _ (reads : PolicyReading) (P : PlainPolicy) (text : Bytes) (A B : Type 0)
     each_as limit x.after last xs run.1,
   )
 
+  ends_as : (limit : ℕ) (comes : Bytes → Type 0) (r : Result (Unit {0}) TalkFault) (reached last : Standing)
+      → ends_by limit (AreGivenBy reads P text A) comes r reached last → ends_by limit (AreGivenBy reads P text B) comes r reached last
+  ends_as limit comes (Ok done) reached last e = e
+  ends_as limit comes (Err talks.SourceFault) reached last e = e
+  ends_as limit comes (Err talks.SinkFault) reached last e = e
+  ends_as limit comes (Err talks.TooLong) reached last e = e
+  ends_as limit comes (Err (talks.NoMemory m)) reached last (inl same) = inl same
+  ends_as limit comes (Err (talks.NoMemory m)) reached last (inr u) =
+      inr (record { told = u.told; each = u.each; came = u.came; answer = given_as reached last u.told u.answer })
+
   -- a conversation over a journal that is an old one only if this is so, where what is premised of the disk is met
   pub conversed_as : (limit : ℕ) (result : Result (Unit {0}) TalkFault) (opening last : Standing) (before now : VoiceSeen) (disk : DiskSeen) (tells : Type 0) (hears : Bytes → Type 0)
       → tells → HasConversedBy reads P text A limit result opening last before now disk tells hears
@@ -77,8 +93,7 @@ module _ (reads : PolicyReading) (P : PlainPolicy) (text : Bytes) (A B : Type 0)
     heard = h.heard;
     reached = h.reached;
     answered = each_as limit opening h.reached h.exchanges h.answered;
-    ends = ends_onto (λ s. s) limit (GivesReplyBy reads P text A) (GivesReplyBy reads P text B) (λ more. hears (lines_in h.exchanges ++ more))
-        (λ more. hears (lines_in h.exchanges ++ more)) (λ more heard. heard) h.reached last (λ line reply gives. answered_as h.reached last line reply gives) result h.ends;
+    ends = ends_as limit (λ more. hears (lines_in h.exchanges ++ more)) result h.reached last h.ends;
     output = h.output;
     told = h.told;
     among = h.among;

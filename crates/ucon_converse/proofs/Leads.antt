@@ -1,5 +1,5 @@
 -- Exchanges are a run in text order, and behind a checkpoint that met a disk fault nothing more.
-use Rattle.std.proofs.Common.{◌≡◌, ◌⊎◌, inl, inr, ⊎_elim, true, false, ℕ, ◌<◌, ◌≤◌, List, [], ◌∷◌, ◌++◌, length, refl, sym, ap, subst, ◌∙◌}
+use Rattle.std.proofs.Common.{◌≡◌, ◌⊎◌, inl, inr, ⊎_elim, true, false, ℕ, ◌<◌, ◌≤◌, List, [], ◌∷◌, ◌++◌, length, append_assoc, refl, sym, ap, subst, ◌∙◌}
 use Rattle.std.proofs.lemmas.Bool.Decides.{leb_tells}
 use Rattle.std.proofs.lemmas.List.{append-nil}
 use Rattle.std.specs.Prelude.{Bool, Option, Some, None, IsSome, Result, Ok, Err}
@@ -7,15 +7,16 @@ use Rattle.ucon_base.specs.Elements.{Each}
 use Rattle.ucon_model.specs.declared.command.Entry.{Entry}
 use Rattle.ucon_model.specs.Plain.{Bytes, PlainPolicy}
 use Rattle.ucon_model.specs.History.{History}
-use Rattle.ucon_model.specs.LegalRun.{Answer, Answered, no_memory, disk_fault, stopped, placed}
+use Rattle.ucon_model.specs.LegalRun.{Answer, Answered, IsNext, no_memory, disk_fault, is_disk_fault, stopped, placed}
 use Rattle.ucon_model.specs.StoredRun.{LeadsTo}
 use Rattle.ucon_store.specs.declared.fault.PointFault.{PointFault}
 use Rattle.ucon_store.specs.declared.fault.PointFault.TheVariants as faults
 use Rattle.ucon_store.specs.Marks.{marked}
 use Rattle.ucon_store.specs.Points.{PolicyReading}
-use Rattle.ucon_tell.specs.Talk.{AnswersEach, Exchange, IsAnswered}
+use Rattle.ucon_converse.specs.Exchanges.{AnswersEach, Exchange, IsAnswered}
+use Rattle.ucon_converse.specs.Conversation.{AreInDoubt, IsMarkOf}
 use Rattle.ucon_converse.specs.Due.{is_due_after}
-use Rattle.ucon_converse.specs.Replies.{AreAnswersBy, GivesReplyBy, GoesOn, IsAskedAndAnswered, IsPointed, IsTooLong, LeadsOn, Rests, Standing, tried_at}
+use Rattle.ucon_converse.specs.Replies.{AreAnswersBy, GivesReplyBy, GoesOn, IsAskedAndAnswered, IsPointed, IsTooLong, JoinsDoubt, LeadsOn, Rests, Standing, tried_at}
 use Rattle.ucon_converse.specs.Requests.{IsNoRequestBy}
 use Rattle.ucon_converse.proofs.Unasked.{no_request, point_asks_nothing}
 
@@ -62,11 +63,28 @@ rests_drift old P text no_memory before after is = drifts_not before after is
 rests_drift old P text disk_fault before after is = drifts_not before after is
 rests_drift old P text stopped before after is = drifts_not before after is
 
--- behind a disk fault all are stopped, and nothing is other
-pub record AreStopped (first last : Standing) (told : List Answered) : Type 0 where
+-- what stands in doubt behind the first standing's, where all these were stopped
+abbrev pub DoubtsGrow : PlainPolicy → Standing → Standing → List Answered → History → Type 0
+DoubtsGrow P first last told doubt =
+    (es : History) × (last.failed ≡ Some (doubt ++ es)) × AreInDoubt P (first.history ++ doubt) es told × (doubt ≡ [] → es ≡ [])
+
+-- behind a disk fault all are stopped, and nothing is other but that more may be in doubt
+pub record AreStopped (P : PlainPolicy) (first last : Standing) (told : List Answered) : Type 0 where
   pub each : Each (λ later. later.answer ≡ stopped) told
   pub history : last.history ≡ first.history
-  pub failed : last.failed ≡ first.failed
+  pub doubts : (doubt : History) → first.failed ≡ Some doubt → DoubtsGrow P first last told doubt
+
+-- a line more, which isn't in doubt
+doubt_skipped : (P : PlainPolicy) (H es : History) (t : Answered) (run : List Answered) → AreInDoubt P H es run → AreInDoubt P H es (t ∷ run)
+doubt_skipped P H [] t run is = tt
+doubt_skipped P H (e ∷ es) t run is = inr is
+
+-- the next answer of a run is no disk fault
+next_is_no_fault : (P : PlainPolicy) (H : History) (line : Entry) (answer : Answer) → IsNext P H line answer → is_disk_fault answer ≡ false
+next_is_no_fault P H line no_memory next = refl
+next_is_no_fault P H line (placed place reply) next = refl
+next_is_no_fault P H line disk_fault next = absurd next
+next_is_no_fault P H line stopped next = absurd next
 
 -- A run leads from the first standing to the last, and then answers that the disk had failed, if a checkpoint met a fault.
 pub record LeadsOver (P : PlainPolicy) (first last : Standing) (told : List Answered) : Type 0 where
@@ -76,7 +94,7 @@ pub record LeadsOver (P : PlainPolicy) (first last : Standing) (told : List Answ
   pub failed : Option Entry
   pub leads : LeadsTo P first.history run last.history failed
   pub stops : Each (λ t. t.answer ≡ stopped) over
-  pub mark : ((last.failed ≡ marked failed) × (over ≡ [])) ⊎ ((last.failed ≡ Some []) × (failed ≡ None))
+  pub mark : (IsMarkOf P last.history last.failed run × (over ≡ [])) ⊎ ((last.failed ≡ Some []) × (failed ≡ None))
 
 module _ (reads : PolicyReading) (P : PlainPolicy) (text : Bytes) (old : Type 0) (limit : ℕ)
     -- a line that is too long is no request
@@ -114,40 +132,96 @@ module _ (reads : PolicyReading) (P : PlainPolicy) (text : Bytes) (old : Type 0)
       ⊎_elim (λ (same : after.failed ≡ before.failed). same)
       (λ (is : (before.failed ≡ None) × (after.failed ≡ Some [])). absurd (none_is_some before.failed is.0 some)) d.mark
 
-  all_stopped : (first last : Standing) (xs : List (Exchange Standing)) → IsSome first.failed → Each' first xs last → Run first last xs (AreStopped first last)
+  all_stopped : (first last : Standing) (xs : List (Exchange Standing)) → IsSome first.failed → Each' first xs last → Run first last xs (AreStopped P first last)
   all_stopped first last [] some run = record {
     told = [];
     among = refl;
-    is_so = record { each = tt; history = ap (λ (s : Standing). s.history) (sym run); failed = ap (λ (s : Standing). s.failed) (sym run) };
+    is_so = record {
+      each = tt;
+      history = ap (λ (s : Standing). s.history) (sym run);
+      doubts = λ doubt is. ([], ap (λ (s : Standing). s.failed) (sym run) ∙ (is ∙ ap Some (sym (append-nil doubt))), tt, λ none. refl);
+    };
   }
   all_stopped first last (x ∷ xs) some run = by (λ still. all_stopped x.after last xs still run.1) (one_of first x run.0)
     where
-      by : (IsSome x.after.failed → Run x.after last xs (AreStopped x.after last)) → OneOf first x → Run first last (x ∷ xs) (AreStopped first last)
+      stopped_on : (IsSome x.after.failed → Run x.after last xs (AreStopped P x.after last)) → (b : IsAskedAndAnswered reads P text old first x.after x.line x.reply)
+          → b.told.answer ≡ stopped → (b.steps.between ≡ first) ⊎ JoinsDoubt P first b.steps.between b.told → Run first last (x ∷ xs) (AreStopped P first last)
+      stopped_on others b answer (inl still) =
+          let same : x.after ≡ first = subst (λ (r : Answer). Rests old P text r b.steps.between x.after) answer b.steps.rests ∙ still in
+          let rest = others (subst (λ (s : Standing). IsSome s.failed) (sym same) some) in
+          record {
+            told = b.told ∷ rest.told;
+            among = inr (b.told, rest.told, refl, b.request, b.reply_is, rest.among);
+            is_so = record {
+              each = (answer, rest.is_so.each);
+              history = rest.is_so.history ∙ ap (λ (s : Standing). s.history) same;
+              doubts = λ doubt is.
+                  let g = rest.is_so.doubts doubt (ap (λ (s : Standing). s.failed) same ∙ is) in (
+                    g.0,
+                    g.1,
+                    doubt_skipped P (first.history ++ doubt) g.0 b.told rest.told (subst (λ (s : Standing). AreInDoubt P (s.history ++ doubt) g.0 rest.told) same g.2),
+                    g.3,
+                  );
+            };
+          }
+      stopped_on others b answer (inr j) =
+          let line = b.told.line in
+          let same : x.after ≡ record { history = first.history; failed = Some (j.doubt ++ line ∷ []); points = first.points; tried = first.tried } =
+          subst (λ (r : Answer). Rests old P text r b.steps.between x.after) answer b.steps.rests ∙ j.joined in
+          let mark : x.after.failed ≡ Some (j.doubt ++ line ∷ []) = ap (λ (s : Standing). s.failed) same in
+          let history : x.after.history ≡ first.history = ap (λ (s : Standing). s.history) same in
+          let rest = others (subst (λ (o : Option History). IsSome o) (sym mark) refl) in
+          record {
+            told = b.told ∷ rest.told;
+            among = inr (b.told, rest.told, refl, b.request, b.reply_is, rest.among);
+            is_so = record {
+              each = (answer, rest.is_so.each);
+              history = rest.is_so.history ∙ history;
+              doubts = λ doubt is.
+                  let both : Some j.doubt ≡ Some doubt = sym j.failed ∙ is in
+                  let one : j.doubt ≡ doubt = cc both in
+                  let g = rest.is_so.doubts (j.doubt ++ line ∷ []) mark in
+                  let grown : DoubtsGrow P first last (b.told ∷ rest.told) j.doubt = (
+                    line ∷ g.0,
+                    g.1 ∙ ap Some (append_assoc j.doubt (line ∷ []) g.0),
+                    inl (
+                      refl,
+                      j.would_change,
+                      subst (λ (H : History). AreInDoubt P H g.0 rest.told)
+                          (ap (λ (H : History). H ++ (j.doubt ++ line ∷ [])) history ∙ sym (append_assoc first.history j.doubt (line ∷ []))) g.2,
+                    ),
+                    λ none. absurd (j.some none),
+                  ) in
+                  subst (DoubtsGrow P first last (b.told ∷ rest.told)) one grown;
+            };
+          }
+
+      by : (IsSome x.after.failed → Run x.after last xs (AreStopped P x.after last)) → OneOf first x → Run first last (x ∷ xs) (AreStopped P first last)
       by others (nothing_asked none d) =
           let same = still_failed first x.after some d in
           let rest = others (subst (λ (o : Option History). IsSome o) (sym same) some) in
           record {
             told = rest.told;
             among = inl (none, rest.among);
-            is_so = record { each = rest.is_so.each; history = rest.is_so.history ∙ d.history; failed = rest.is_so.failed ∙ same };
+            is_so = record {
+              each = rest.is_so.each;
+              history = rest.is_so.history ∙ d.history;
+              doubts = λ doubt is.
+                  let g = rest.is_so.doubts doubt (same ∙ is) in
+                  (g.0, g.1, subst (λ (H : History). AreInDoubt P (H ++ doubt) g.0 rest.told) d.history g.2, g.3);
+            };
           }
       by others (asked a) = ⊎_elim
           (λ (is : (first.failed ≡ None) × LeadsOn P first a.steps.between (a.told ∷ [])). absurd (none_is_some first.failed is.0 some))
-          (λ (is : IsSome first.failed × (a.told.answer ≡ stopped) × (a.steps.between ≡ first)).
-          let same : x.after ≡ first = subst (λ (r : Answer). Rests old P text r a.steps.between x.after) is.1 a.steps.rests ∙ is.2 in
-          let rest = others (subst (λ (s : Standing). IsSome s.failed) (sym same) some) in
-          record {
-            told = a.told ∷ rest.told;
-            among = inr (a.told, rest.told, refl, a.request, a.reply_is, rest.among);
-            is_so = record {
-              each = (is.1, rest.is_so.each);
-              history = rest.is_so.history ∙ ap (λ (s : Standing). s.history) same;
-              failed = rest.is_so.failed ∙ ap (λ (s : Standing). s.failed) same;
-            };
-          }) a.steps.step
+          (λ (is : IsSome first.failed × (a.told.answer ≡ stopped) × ((a.steps.between ≡ first) ⊎ JoinsDoubt P first a.steps.between a.told)).
+          stopped_on others a is.1 is.2) a.steps.step
+
+  -- a store that a checkpoint's fault stopped has nothing in doubt
+  none_in_doubt : (mid last : Standing) (told : List Answered) → mid.failed ≡ Some [] → AreStopped P mid last told → last.failed ≡ Some []
+  none_in_doubt mid last told failed s = let g = s.doubts [] failed in g.1 ∙ ap Some (g.3 refl)
 
   -- nothing more is told but that the disk had failed, since a checkpoint met a fault here
-  over_at : (first mid last : Standing) (told : List Answered) → mid.history ≡ first.history → mid.failed ≡ Some [] → AreStopped mid last told → LeadsOver P first last told
+  over_at : (first mid last : Standing) (told : List Answered) → mid.history ≡ first.history → mid.failed ≡ Some [] → AreStopped P mid last told → LeadsOver P first last told
   over_at first mid last told same failed s = record {
     run = [];
     over = told;
@@ -155,12 +229,12 @@ module _ (reads : PolicyReading) (P : PlainPolicy) (text : Bytes) (old : Type 0)
     failed = None;
     leads = (s.history ∙ same, refl);
     stops = s.each;
-    mark = inr (s.failed ∙ failed, refl);
+    mark = inr (none_in_doubt mid last told failed s, refl);
   }
 
   -- the same behind one answer more
   over_behind : (first mid last : Standing) (t : Answered) (told : List Answered) → LeadsTo P first.history (t ∷ []) mid.history None → mid.failed ≡ Some []
-      → AreStopped mid last told → LeadsOver P first last (t ∷ told)
+      → AreStopped P mid last told → LeadsOver P first last (t ∷ told)
   over_behind first mid last t told leads failed s = record {
     run = t ∷ [];
     over = told;
@@ -168,7 +242,7 @@ module _ (reads : PolicyReading) (P : PlainPolicy) (text : Bytes) (old : Type 0)
     failed = None;
     leads = subst (λ (H : History). LeadsTo P first.history (t ∷ []) H None) (sym s.history) leads;
     stops = s.each;
-    mark = inr (s.failed ∙ failed, refl);
+    mark = inr (none_in_doubt mid last told failed s, refl);
   }
 
   pub exchanges_lead : (first last : Standing) (xs : List (Exchange Standing)) → first.failed ≡ None → Each' first xs last → Run first last xs (LeadsOver P first last)
@@ -188,7 +262,13 @@ module _ (reads : PolicyReading) (P : PlainPolicy) (text : Bytes) (old : Type 0)
   exchanges_lead first last (x ∷ xs) none run =
       by (λ still. all_stopped x.after last xs still run.1) (λ none'. exchanges_lead x.after last xs none' run.1) (one_of first x run.0)
     where
-      by_step : (IsSome x.after.failed → Run x.after last xs (AreStopped x.after last)) → (x.after.failed ≡ None → Run x.after last xs (LeadsOver P x.after last))
+      marked_on : (t : Answered) (run over : List Answered) (failed : Option Entry) → is_disk_fault t.answer ≡ false
+          → (IsMarkOf P last.history last.failed run × (over ≡ [])) ⊎ ((last.failed ≡ Some []) × (failed ≡ None))
+          → (IsMarkOf P last.history last.failed (t ∷ run) × (over ≡ [])) ⊎ ((last.failed ≡ Some []) × (failed ≡ None))
+      marked_on t run over failed calm (inl m) = inl (inr (calm, m.0), m.1)
+      marked_on t run over failed calm (inr m) = inr m
+
+      by_step : (IsSome x.after.failed → Run x.after last xs (AreStopped P x.after last)) → (x.after.failed ≡ None → Run x.after last xs (LeadsOver P x.after last))
           → (a : IsAskedAndAnswered reads P text old first x.after x.line x.reply) → Drifts a.steps.between x.after
           → (failed : Option Entry) → a.steps.between.failed ≡ marked failed → LeadsTo P first.history (a.told ∷ []) a.steps.between.history failed
           → Run first last (x ∷ xs) (LeadsOver P first last)
@@ -206,7 +286,7 @@ module _ (reads : PolicyReading) (P : PlainPolicy) (text : Bytes) (old : Type 0)
               failed = rest.is_so.failed;
               leads = inl (is.0, subst (λ (H : History). LeadsTo P H rest.is_so.run last.history rest.is_so.failed) (d.history ∙ is.1.0) rest.is_so.leads);
               stops = rest.is_so.stops;
-              mark = rest.is_so.mark;
+              mark = marked_on a.told rest.is_so.run rest.is_so.over rest.is_so.failed (next_is_no_fault P first.history a.told.line a.told.answer is.0) rest.is_so.mark;
             };
           } in run)
           (λ (by_point : (a.steps.between.failed ≡ None) × (x.after.failed ≡ Some [])).
@@ -236,11 +316,16 @@ module _ (reads : PolicyReading) (P : PlainPolicy) (text : Bytes) (old : Type 0)
                     refl,
                   );
               stops = tt;
-              mark = inl (rest.is_so.failed ∙ (same ∙ mark_is), refl);
+              mark =
+                  let g = rest.is_so.doubts (a.told.line ∷ []) (same ∙ mark_is) in
+                  inl (
+                    inl (is.0.failed, (g.0, g.1, subst (λ (H : History). AreInDoubt P (H ++ a.told.line ∷ []) g.0 rest.told) (sym rest.is_so.history) g.2)),
+                    refl,
+                  );
             };
           }
 
-      by : (IsSome x.after.failed → Run x.after last xs (AreStopped x.after last)) → (x.after.failed ≡ None → Run x.after last xs (LeadsOver P x.after last))
+      by : (IsSome x.after.failed → Run x.after last xs (AreStopped P x.after last)) → (x.after.failed ≡ None → Run x.after last xs (LeadsOver P x.after last))
           → OneOf first x → Run first last (x ∷ xs) (LeadsOver P first last)
       by stops others (nothing_asked none' d) = ⊎_elim
           (λ (same : x.after.failed ≡ first.failed).
@@ -270,4 +355,5 @@ module _ (reads : PolicyReading) (P : PlainPolicy) (text : Bytes) (old : Type 0)
           let d = rests_drift old P text a.told.answer a.steps.between x.after a.steps.rests in
           ⊎_elim
           (λ (is : (first.failed ≡ None) × LeadsOn P first a.steps.between (a.told ∷ [])). by_step stops others a d is.1.failed is.1.mark is.1.leads)
-          (λ (is : IsSome first.failed × (a.told.answer ≡ stopped) × (a.steps.between ≡ first)). absurd (none_is_some first.failed none is.0)) a.steps.step
+          (λ (is : IsSome first.failed × (a.told.answer ≡ stopped) × ((a.steps.between ≡ first) ⊎ JoinsDoubt P first a.steps.between a.told)).
+          absurd (none_is_some first.failed none is.0)) a.steps.step

@@ -6,7 +6,11 @@ pub mod Conversing
 pub mod Dated
 pub mod Ended
 pub mod Faulty
+pub mod InFront
+pub mod Giving
+pub mod Growing
 pub mod Leads
+pub mod Lengths
 pub mod Long
 pub mod OneLine
 pub mod Overall
@@ -14,9 +18,14 @@ pub mod PolicyLines
 pub mod Reaching
 pub mod ReadingBack
 pub mod ReadingExamples
+pub mod Putting
 pub mod Records
+pub mod Rounds
 pub mod Stepping
+pub mod Taking
 pub mod Tellings
+pub mod Batches
+pub mod BatchesAt
 pub mod Unasked
 pub mod Unheard
 pub mod Unpointed

@@ -1,5 +1,5 @@
 -- From a keeper that talked to answers behind a trace that leads to where its store begins.
-use Rattle.std.proofs.Common.{◌≡◌, inl, inr, ℕ, ◌+◌, ◌≤◌, List, [], ◌∷◌, ◌++◌, length, refl, sym, ap, subst, ◌∙◌}
+use Rattle.std.proofs.Common.{◌≡◌, ◌⊎◌, inl, inr, ℕ, ◌+◌, ◌≤◌, ◌<◌, arith, List, [], ◌∷◌, ◌++◌, length, refl, sym, ap, subst, ◌∙◌}
 use Rattle.std.proofs.lemmas.List.{append-nil}
 use Rattle.std.specs.Prelude.{Option, Some, IfSome, Result, Ok, Err}
 use Rattle.ucon_disk.specs.Seen.{DiskSeen}
@@ -15,16 +15,19 @@ use Rattle.ucon_state.specs.Held.{held_after}
 use Rattle.ucon_store.specs.Stays.{Stays}
 use Rattle.ucon_syntax.specs.Policies.{accepted}
 use Rattle.ucon_tell.specs.Seen.{VoiceSeen}
-use Rattle.ucon_tell.specs.Talk.{AnswersEach, Exchange, HasTalked, lines_in, replies_in}
+use Rattle.ucon_tell.specs.Talk.{AreAnswered, AreRounds, HasTalked, IsRefused, Round, told_in}
+use Rattle.ucon_tell.specs.Told.{lines_of, replies_of}
+use Rattle.ucon_converse.specs.Exchanges.{lines_in}
 use Rattle.ucon_tell.specs.declared.talk_fault.TalkFault.{TalkFault}
 use Rattle.ucon_tell.specs.declared.talk_fault.TalkFault.TheVariants as faults
 use Rattle.ucon_converse.specs.Answering.{Answering}
 use Rattle.ucon_converse.specs.Conversation.{goes_out}
 use Rattle.ucon_converse.specs.Greeting.{HasGreeted}
-use Rattle.ucon_converse.specs.Keeping.{GivesReply, Keeps, Refuses, kept_seen, moment_of}
-use Rattle.ucon_converse.specs.Reached.{GivesReplyAtBy, HasAnsweredBy, IsSeenAtBy, Reached, reached_by}
-use Rattle.ucon_converse.specs.Replies.{IsTooLong, ready_line}
+use Rattle.ucon_converse.specs.Keeping.{GivesReplies, Keeps, Refuses, kept_seen, moment_of}
+use Rattle.ucon_converse.specs.Reached.{AreGivenAtBy, GivesReplyAtBy, HasAnsweredBy, IsSeenAtBy, Reached, reached_by}
+use Rattle.ucon_converse.specs.Replies.{ready_line}
 use Rattle.ucon_converse.proofs.Conversing.{keeps_along, keeps_one, went_out}
+use Rattle.ucon_converse.proofs.Rounds.{AllAlong, Along, given_along, no_rounds, one_more, refused_along}
 use Rattle.ucon_converse.proofs.Untold.{ends_onto}
 
 -- a trace that leads to where a store begins leads to where it begins later
@@ -34,18 +37,6 @@ start_later seen P T x y stays starts = subst (λ (z : Option Bytes × ℕ). IsS
 module _ {D : Type 0} (P : PlainPolicy) (T : Trace) where
   abbrev at : Answering D → Reached
   at a = reached_by P T a.store
-
-  abbrev shown_at : List (Exchange (Answering D)) → List (Exchange Reached)
-  shown_at [] = []
-  shown_at (x ∷ xs) = record { line = x.line; reply = x.reply; after = at x.after } ∷ shown_at xs
-
-  lines_at : (xs : List (Exchange (Answering D))) → lines_in (shown_at xs) ≡ lines_in xs
-  lines_at [] = refl
-  lines_at (x ∷ xs) = ap (λ (l : Bytes). x.line ++ 10 ∷ l) (lines_at xs)
-
-  replies_at : (xs : List (Exchange (Answering D))) → replies_in (shown_at xs) ≡ replies_in xs
-  replies_at [] = refl
-  replies_at (x ∷ xs) = ap (λ (l : Bytes). x.reply ++ l) (replies_at xs)
 
   -- opening saw in a file what the store has that it made
   pub seen_at : (text : Bytes) (s : Kept D) (file : Bytes) → s.policy ≡ text → IsStart P s.point s.before T → IsSeenAs P s.policy s.point s.before s.entries file
@@ -64,20 +55,29 @@ module _ {D : Type 0} (seen : D → DiskSeen) (only : (d : D) (c : List ℕ) →
     (counts : (d : D) (t : ℕ) (c : List ℕ) → t ≤ (seen d).moment → (seen d).images c → (seen d).images_since t c)
     (sooner : (d : D) (t u : ℕ) (c : List ℕ) → t ≤ u → u ≤ (seen d).moment → (seen d).images_since u c → (seen d).images_since t c)
     (P : PlainPolicy) (T : Trace) where
-  answers_at : (first last : Answering D) (xs : List (Exchange (Answering D))) → accepted first.store.policy ≡ Some P
-      → IsStart P first.store.point first.store.before T → AnswersEach 65546 (GivesReply seen) Refuses first xs last
-      → AnswersEach 65546 (GivesReplyAtBy accepted P) IsTooLong (at P T first) (shown_at P T xs) (at P T last)
-  answers_at first last [] accepts starts run = ap (at P T) run
-  answers_at first last (x ∷ xs) accepts starts run =
-      let s = (keeps_one seen only read counts sooner first x run.0).stays in (
-        record {
-          line = run.0.line;
-          reply = run.0.reply;
-          answer = λ lt. (run.0.answer lt).said_at P T accepts starts;
-          refusal = λ le. (ap (at P T) (run.0.refusal le).0, (run.0.refusal le).1);
-        },
-        answers_at x.after last xs (ap accepted s.policy ∙ accepts) (start_later seen P T first.store x.after.store s starts) run.1,
-      )
+  abbrev Rounds' : Answering D → List (Round (Answering D)) → Answering D → Type 0
+  Rounds' first rounds last = AreRounds 65546 (GivesReplies seen) Refuses first rounds last
+
+  along_at : (before : Answering D) (r : Round (Answering D)) → accepted before.store.policy ≡ Some P → IsStart P before.store.point before.store.before T
+      → AreAnswered 65546 (GivesReplies seen) before r ⊎ IsRefused 65546 Refuses before r → Along (GivesReplyAtBy accepted P) (at P T before) (at P T r.after) r.told
+  along_at before r accepts starts (inl a) =
+      given_along (GivesReplyAtBy accepted P) (at P T before) (at P T r.after) r.told a.each (a.answered.said_at P T accepts starts)
+  along_at before r accepts starts (inr a) =
+      refused_along (GivesReplyAtBy accepted P) (at P T before) (at P T r.after) r.told a.one a.alone (record {
+        line = a.line;
+        reply = a.reply;
+        answer = λ lt. let le = a.long in absurd (let no : ⊥ = omega arith in no);
+        refusal = λ le. (ap (at P T) a.same, a.refused);
+      })
+
+  answers_at : (first last : Answering D) (rounds : List (Round (Answering D))) → accepted first.store.policy ≡ Some P
+      → IsStart P first.store.point first.store.before T → Rounds' first rounds last
+      → AllAlong (GivesReplyAtBy accepted P) (at P T) (at P T first) (at P T last) rounds
+  answers_at first last [] accepts starts run = no_rounds (GivesReplyAtBy accepted P) (at P T) (at P T first) (at P T last) (ap (at P T) run)
+  answers_at first last (r ∷ rounds) accepts starts run =
+      let s = (keeps_one seen only read counts sooner first r run.0).stays in
+      one_more (GivesReplyAtBy accepted P) (at P T) (at P T first) (at P T last) r rounds (along_at first r accepts starts run.0)
+      (answers_at r.after last rounds (ap accepted s.policy ∙ accepts) (start_later seen P T first.store r.after.store s starts) run.1)
 
   module _ (first last : Answering D) (v0 v1 v2 : VoiceSeen) (hears : Bytes → Type 0) where
     abbrev steps : ℕ
@@ -88,20 +88,20 @@ module _ {D : Type 0} (seen : D → DiskSeen) (only : (d : D) (c : List ℕ) →
 
     pub answered_at : (r : Result (Unit {0}) TalkFault) → accepted first.store.policy ≡ Some P → IsStart P first.store.point first.store.before T
         → HasGreeted (Ok tt) steps (moment_of (seen first.store.disk)) v0 v1
-        → HasTalked (kept_seen seen) (Keeps seen) (GivesReply seen) Refuses 65546 r first last v1 v2 hears → Answered r
+        → HasTalked (kept_seen seen) (Keeps seen) (GivesReplies seen) Refuses 65546 r first last v1 v2 hears → Answered r
     answered_at r accepts starts greeted h =
-        let s = (keeps_along seen only read counts sooner first h.reached h.exchanges h.answered).stays in
+        let s = (keeps_along seen only read counts sooner first h.reached h.rounds h.answered).stays in
+        let a = answers_at first h.reached h.rounds accepts starts h.answered in
         record {
-          exchanges = shown_at P T h.exchanges;
-          heard = subst hears (sym (lines_at P T h.exchanges)) h.heard;
+          exchanges = a.exchanges;
+          heard = subst hears (sym a.lines) h.heard;
           reached = at P T h.reached;
-          answered = answers_at first h.reached h.exchanges accepts starts h.answered;
-          ends = ends_onto (at P T) 65546 (GivesReply seen) (GivesReplyAtBy accepted P) (λ more. hears (lines_in h.exchanges ++ more))
-              (λ more. hears (lines_in (shown_at P T h.exchanges) ++ more))
-              (λ more heard. subst (λ (l : Bytes). hears (l ++ more)) (sym (lines_at P T h.exchanges)) heard) h.reached last
-              (λ line reply gives. gives.said_at P T (ap accepted s.policy ∙ accepts) (start_later seen P T first.store h.reached.store s starts)) r h.ends;
-          output = subst (λ (l : Bytes). goes_out r v0.contents v2.contents (ready_line steps) l) (sym (replies_at P T h.exchanges))
-              (went_out r v0.contents v1.contents v2.contents (ready_line steps) (replies_in h.exchanges) greeted.0 h.output);
+          answered = a.answered;
+          ends = ends_onto (at P T) 65546 (GivesReplies seen) (AreGivenAtBy accepted P) (λ more. hears (lines_of (told_in h.rounds) ++ more))
+              (λ more. hears (lines_in a.exchanges ++ more)) (λ more heard. subst (λ (l : Bytes). hears (l ++ more)) (sym a.lines) heard) h.reached last
+              (λ told gives. gives.said_at P T (ap accepted s.policy ∙ accepts) (start_later seen P T first.store h.reached.store s starts)) r h.ends;
+          output = subst (λ (l : Bytes). goes_out r v0.contents v2.contents (ready_line steps) l) (sym a.replies)
+              (went_out r v0.contents v1.contents v2.contents (ready_line steps) (replies_of (told_in h.rounds)) greeted.0 h.output);
         }
 
     -- the first line wasn't told whole

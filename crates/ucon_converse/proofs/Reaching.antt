@@ -100,7 +100,7 @@ module _ {D : Type 0} (seen : D → DiskSeen) (P : PlainPolicy) (T : Trace) (old
         ),
       )
   steps_at policy is starts e (Err faults.Stopped) halted placed no_memory still failed =
-      inr (halted.0 refl, refl, ap (reached_by P T) (still refl))
+      inr (halted.0 refl, refl, inl (ap (reached_by P T) (still refl)))
 
   same_may : new ≡ old → MayStop (reached_by P T old) (reached_by P T new)
   same_may same = subst (λ (s : Kept D). MayStop (reached_by P T old) (reached_by P T s)) (sym same) (may_same (reached_by P T old))

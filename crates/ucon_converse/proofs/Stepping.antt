@@ -45,7 +45,7 @@ no_memory_step P G points tried old new e none same = inl (
 
 pub stopped_step : {D : Type 0} (P : PlainPolicy) (G : History) (points : List ℕ) (tried : ℕ) (old new : Kept D) (e : Entry) → IsSome old.mark → new ≡ old
     → IsStep P (stands G points tried old) (stands G points tried new) (record { line = e; answer = answer_said (Err faults.Stopped) })
-stopped_step P G points tried old new e some same = inr (some, refl, ap (stands G points tried) same)
+stopped_step P G points tried old new e some same = inr (some, refl, inl (ap (stands G points tried) same))
 
 module _ {D : Type 0} (seen : D → DiskSeen) (policy : Option PlainPolicy) (P : PlainPolicy) (is : policy ≡ Some P)
     (old new : Kept D) (G : History) (points : List ℕ) (tried : ℕ) (front : IsFront P old G) (e : Entry) where

@@ -12,11 +12,12 @@ use Rattle.ucon_store.specs.Stays.{Stays}
 use Rattle.ucon_store.specs.Whole.{IsFront}
 use Rattle.ucon_syntax.specs.Policies.{accepted}
 use Rattle.ucon_tell.specs.Seen.{KeeperSeen}
+use Rattle.ucon_tell.specs.Told.{Told}
 use Rattle.ucon_turn.specs.Lists.{Begins}
 use Rattle.ucon_converse.specs.Answering.{Answering}
 use Rattle.ucon_converse.specs.Holding.{HasFirst, HasPointsOf, HasPointsPast, HoldsAll, IsFoundedAt, standing}
-use Rattle.ucon_converse.specs.Reached.{GivesReplyAtBy, reached_by}
-use Rattle.ucon_converse.specs.Replies.{GivesReplyBy, refusal_line}
+use Rattle.ucon_converse.specs.Reached.{AreGivenAtBy, GivesReplyAtBy, reached_by}
+use Rattle.ucon_converse.specs.Replies.{AreGivenBy, GivesReplyBy, refusal_line}
 
 -- some trace leads to where a store begins, under its policy
 pub record IsLed {D : Type 0} (s : Kept D) : Type 0 where
@@ -68,6 +69,15 @@ pub record GivesReply {D : Type 0} (seen : D → DiskSeen) (x y : Answering D) (
       → GivesReplyBy accepted P x.store.policy (IsDated (seen x.store.disk).contents) (standing G places x) (standing G places y) line reply
   pub said_at : (P : PlainPolicy) (T : Trace) → accepted x.store.policy ≡ Some P → IsStart P x.store.point x.store.before T
       → GivesReplyAtBy accepted P (reached_by P T x.store) (reached_by P T y.store) line reply
+
+-- From one store to the next these lines were given these replies, one after the other, behind each history that leads to where the first one begins,
+-- and behind each trace.
+pub record GivesReplies {D : Type 0} (seen : D → DiskSeen) (x y : Answering D) (told : List Told) : Type 0 where
+  pub keeps : Keeps seen x y
+  pub said : (P : PlainPolicy) (G : History) (places : List ℕ) → accepted x.store.policy ≡ Some P → IsFront P x.store G
+      → AreGivenBy accepted P x.store.policy (IsDated (seen x.store.disk).contents) (standing G places x) (standing G places y) told
+  pub said_at : (P : PlainPolicy) (T : Trace) → accepted x.store.policy ≡ Some P → IsStart P x.store.point x.store.before T
+      → AreGivenAtBy accepted P (reached_by P T x.store) (reached_by P T y.store) told
 
 -- a line that is too long is told so, whatever the store
 abbrev pub Refuses : {D : Type 0} → Answering D → Bytes → Type 0

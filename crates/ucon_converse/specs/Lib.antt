@@ -2,6 +2,8 @@ pub mod Answering
 pub mod Conversation
 pub mod Due
 pub mod Ended
+pub mod Exchanges
+pub mod Fronts
 pub mod Greeting
 pub mod Holding
 pub mod KeeperLaws
@@ -15,4 +17,5 @@ pub mod Readings
 pub mod Replies
 pub mod Requests
 pub mod Said
+pub mod Together
 pub mod Unasked

@@ -1,10 +1,10 @@
 -- A conversation behind the actions that opening saw in a file, whatever that is found as: also where no history is known, and where the disk tells
 -- nothing. Of lines that are no request it says that nothing changed.
-use Rattle.std.specs.Prelude.{◌≡◌, ◌⊎◌, ℕ, ◌+◌, List, [], ◌∷◌, ◌++◌, length, Option, Some, None, IsSome, Result, true, if◌then◌else◌}
+use Rattle.std.specs.Prelude.{◌≡◌, ◌≢◌, ◌⊎◌, ℕ, ◌+◌, List, [], ◌∷◌, ◌++◌, length, Option, Some, None, IsSome, Result, true, if◌then◌else◌}
 use Rattle.ucon_model.specs.declared.command.Entry.{Entry}
 use Rattle.ucon_model.specs.Action.{Trace}
 use Rattle.ucon_model.specs.Block.{after, reply}
-use Rattle.ucon_model.specs.History.{History, changes}
+use Rattle.ucon_model.specs.History.{History, changes, trace_from}
 use Rattle.ucon_model.specs.LegalRun.{Answer, Answered, no_memory, disk_fault, stopped, placed}
 use Rattle.ucon_model.specs.Output.{answer_line}
 use Rattle.ucon_model.specs.Plain.{Bytes, PlainPolicy, PlainReply}
@@ -14,9 +14,11 @@ use Rattle.ucon_store.specs.Opened.{SeesBy, fresh, holds}
 use Rattle.ucon_store.specs.Points.{PolicyReading}
 use Rattle.ucon_store.specs.Whole.{trace_behind}
 use Rattle.ucon_tell.specs.Seen.{VoiceSeen}
-use Rattle.ucon_tell.specs.Talk.{AnswersEach, Exchange, ends_by, lines_in, replies_in}
+use Rattle.ucon_tell.specs.Talk.{ends_by}
+use Rattle.ucon_tell.specs.Told.{Told}
 use Rattle.ucon_tell.specs.declared.talk_fault.TalkFault.{TalkFault}
 use Rattle.ucon_converse.specs.Conversation.{goes_out}
+use Rattle.ucon_converse.specs.Exchanges.{AnswersAll, AnswersEach, Exchange, lines_in, replies_in}
 use Rattle.ucon_converse.specs.Replies.{IsTooLong, ready_line}
 use Rattle.ucon_converse.specs.Requests.{IsNoRequestBy, IsRequestBy}
 
@@ -57,9 +59,25 @@ IsNextAt P x y e disk_fault =
     (changes (reply P x.actions e.caller e.command) ≡ true) × (y ≡ record { actions = x.actions; entries = x.entries; failed = Some (e ∷ []) })
 IsNextAt P x y e stopped = ⊥
 
--- the same; or the disk had failed, and nothing is other
+-- It was on its way to the disk together with the step that met the disk fault: it would have changed something behind the entries in doubt, and is
+-- in doubt with them.
+pub record JoinsDoubtAt (P : PlainPolicy) (x y : Reached) (t : Answered) : Type 0 where
+  pub doubt : History
+  pub failed : x.failed ≡ Some doubt
+  pub some : doubt ≢ []
+  pub would_change : changes (reply P (trace_from P x.actions doubt) t.line.caller t.line.command) ≡ true
+  pub joined : y ≡ record { actions = x.actions; entries = x.entries; failed = Some (doubt ++ t.line ∷ []) }
+
+-- the same; or the disk had failed, and nothing is other, but that more may be in doubt
 abbrev pub IsStepAt : PlainPolicy → Reached → Reached → Answered → Type 0
-IsStepAt P x y t = ((x.failed ≡ None) × IsNextAt P x y t.line t.answer) ⊎ (IsSome x.failed × (t.answer ≡ stopped) × (y ≡ x))
+IsStepAt P x y t =
+    ((x.failed ≡ None) × IsNextAt P x y t.line t.answer)
+    ⊎ (IsSome x.failed × (t.answer ≡ stopped) × ((y ≡ x) ⊎ JoinsDoubtAt P x y t))
+
+-- each answer leads on from what was reached before it
+abbrev pub StepEachAt : PlainPolicy → Reached → List Answered → Reached → Type 0
+StepEachAt P first [] last = first ≡ last
+StepEachAt P first (t ∷ told) last = (between : Reached) × IsStepAt P first between t × StepEachAt P between told last
 
 -- a line was a request, and this is the line of its answer
 pub record IsAnsweredAtBy (reads : PolicyReading) (P : PlainPolicy) (x y : Reached) (line reply : Bytes) : Type 0 where
@@ -77,6 +95,10 @@ pub record IsNoStepAtBy (reads : PolicyReading) (x y : Reached) (line : Bytes) :
 abbrev pub GivesReplyAtBy : PolicyReading → PlainPolicy → Reached → Reached → Bytes → Bytes → Type 0
 GivesReplyAtBy reads P x y line reply = IsAnsweredAtBy reads P x y line reply ⊎ IsNoStepAtBy reads x y line
 
+-- these lines were given these replies, one after the other
+abbrev pub AreGivenAtBy : PolicyReading → PlainPolicy → Reached → Reached → List Told → Type 0
+AreGivenAtBy reads P = AnswersAll (GivesReplyAtBy reads P)
+
 -- ---- all lines
 
 -- Lines, of which this is so, were answered one by one, each by one line.
@@ -86,5 +108,5 @@ pub record HasAnsweredBy (reads : PolicyReading) (P : PlainPolicy) (limit : ℕ)
   pub heard : hears (lines_in exchanges)
   pub reached : Reached
   pub answered : AnswersEach limit (GivesReplyAtBy reads P) IsTooLong first exchanges reached
-  pub ends : ends_by limit (GivesReplyAtBy reads P) (λ more. hears (lines_in exchanges ++ more)) result reached last
+  pub ends : ends_by limit (AreGivenAtBy reads P) (λ more. hears (lines_in exchanges ++ more)) result reached last
   pub output : goes_out result before.contents now.contents (ready_line first.entries) (replies_in exchanges)

@@ -1,11 +1,11 @@
 -- What the lines of a conversation are answered, by what a store stands for before and after.
-use Rattle.std.specs.Prelude.{◌≡◌, ◌⊎◌, ℕ, ◌<◌, List, [], ◌∷◌, ◌++◌, length, Option, Some, None, IsSome, true, false, codes, Result, Ok, Err}
+use Rattle.std.specs.Prelude.{◌≡◌, ◌≢◌, ◌⊎◌, ℕ, ◌<◌, List, [], ◌∷◌, ◌++◌, length, Option, Some, None, IsSome, true, false, codes, Result, Ok, Err}
 use Rattle.std.specs.Fmt.{decimal}
 use Rattle.ucon_command.specs.Faults.{amends}
 use Rattle.ucon_command.specs.Requests.{IsAskedBy}
 use Rattle.ucon_model.specs.declared.command.Caller.{Caller}
 use Rattle.ucon_model.specs.declared.command.Entry.{Entry}
-use Rattle.ucon_model.specs.History.{History}
+use Rattle.ucon_model.specs.History.{History, changes, said}
 use Rattle.ucon_model.specs.LegalRun.{Answer, Answered, no_memory, disk_fault, stopped, placed}
 use Rattle.ucon_model.specs.Output.{answer_line, answer_spelling}
 use Rattle.ucon_model.specs.Payload.{most_payload}
@@ -15,9 +15,10 @@ use Rattle.ucon_store.specs.declared.fault.PointFault.{PointFault}
 use Rattle.ucon_store.specs.declared.fault.PointFault.TheVariants as faults
 use Rattle.ucon_store.specs.Marks.{marked}
 use Rattle.ucon_store.specs.Points.{PolicyReading, checkpoint}
-use Rattle.ucon_tell.specs.Talk.{Exchange}
+use Rattle.ucon_tell.specs.Told.{Told}
 use Rattle.ucon_converse.specs.declared.reading.Reading.{Reading}
 use Rattle.ucon_converse.specs.Due.{is_due_after}
+use Rattle.ucon_converse.specs.Exchanges.{AnswersAll, Exchange}
 use Rattle.ucon_converse.specs.Readings.{IsNoReading, IsReadingOf, line_told, reading_line}
 use Rattle.ucon_converse.specs.Requests.{IsNoRequestBy, IsRequestBy, TellsWhyBy}
 
@@ -38,12 +39,21 @@ pub record LeadsOn (P : PlainPolicy) (before after : Standing) (told : List Answ
   pub points : after.points ≡ before.points
   pub tried : after.tried ≡ before.tried
 
--- One request was answered. Where the store isn't stopped the answer is the next one of a run in text order behind the history; else it is that the
--- disk had failed.
+-- It was on its way to the disk together with the step that met the disk fault: it would have changed something behind the entries in doubt, and is
+-- in doubt with them. Either all of them are on the disk or none.
+pub record JoinsDoubt (P : PlainPolicy) (before after : Standing) (t : Answered) : Type 0 where
+  pub doubt : History
+  pub failed : before.failed ≡ Some doubt
+  pub some : doubt ≢ []
+  pub would_change : changes (said P (before.history ++ doubt) t.line.caller t.line.command) ≡ true
+  pub joined : after ≡ record { history = before.history; failed = Some (doubt ++ t.line ∷ []); points = before.points; tried = before.tried }
+
+-- One request was answered. Where the store isn't stopped the answer is the next one of a run in text order behind the history. Else it is that the
+-- disk had failed, and nothing changes, but that its step may be in doubt, too.
 abbrev pub IsStep : PlainPolicy → Standing → Standing → Answered → Type 0
 IsStep P before after t =
     ((before.failed ≡ None) × LeadsOn P before after (t ∷ []))
-    ⊎ (IsSome before.failed × (t.answer ≡ stopped) × (after ≡ before))
+    ⊎ (IsSome before.failed × (t.answer ≡ stopped) × ((after ≡ before) ⊎ JoinsDoubt P before after t))
 
 -- ---- the lines that go out
 
@@ -170,6 +180,10 @@ abbrev pub GivesReplyBy : PolicyReading → PlainPolicy → Bytes → Type 0 →
 GivesReplyBy reads P text old before after line reply =
     IsAskedAndAnswered reads P text old before after line reply ⊎ IsRefused reads before after line reply ⊎ IsUnjudged reads before after line reply
     ⊎ IsRead P text before after line reply ⊎ IsAskedForPoint P text old before after line reply
+
+-- these lines were given these replies, one after the other, which led from here to there
+abbrev pub AreGivenBy : PolicyReading → PlainPolicy → Bytes → Type 0 → Standing → Standing → List Told → Type 0
+AreGivenBy reads P text old = AnswersAll (GivesReplyBy reads P text old)
 
 -- a line that is too long was given this reply
 abbrev pub IsTooLong : {K : Type 0} → K → Bytes → Type 0

@@ -3,13 +3,12 @@
 ghost use Rattle.std.specs.Prelude.{◌≡◌, ◌+◌, length};
 ghost use Rattle.ucon_converse.specs.Keeping.{IsLed};
 
-use crate::answering::{answer_other, answer_request};
+use crate::answering::answer_front;
 use crate::lines::put_refusal;
 use crate::points::{Places, Points};
 use std::alloc::Global;
 use std::marker::Model;
 use ucon_base::NoMemory;
-use ucon_command::read_request;
 use ucon_disk::Disk;
 use ucon_engine::Engine;
 use ucon_store::Store;
@@ -71,14 +70,14 @@ impl<E: Engine, D: Disk> StoreKeeper<E, D> {
 }
 
 impl<E: Engine, D: Disk> Keeper for StoreKeeper<E, D> {
-    ghost use Rattle.ucon_converse.specs.Keeping.{GivesReply, Keeps, Refuses, kept_seen};
+    ghost use Rattle.ucon_converse.specs.Keeping.{GivesReplies, Keeps, Refuses, kept_seen};
     ghost use Rattle.ucon_converse.specs.KeeperLaws.{keeps_again, keeps_kept, keeps_same};
 
     ghost seen = { λ k. kept_seen D.seen k };
 
     ghost stays = { λ x y. Keeps D.seen x y };
 
-    ghost answers = { λ x y line reply. GivesReply D.seen x y line reply };
+    ghost answers = { λ x y told. GivesReplies D.seen x y told };
 
     ghost refuses = { λ x reply. Refuses x reply };
 
@@ -90,18 +89,21 @@ impl<E: Engine, D: Disk> Keeper for StoreKeeper<E, D> {
 
     ghost again = { λ x y z p q. keeps_again D.seen D.only_now D.as_read D.counts_now x y z p q };
 
-    fn answer(&mut self, alloc: Global, line: &[u8], text: &mut Vec<u8>) -> Result<(), NoMemory> {
-        match read_request(alloc, line) {
-            Ok(request) => answer_request(
-                alloc,
-                &mut self.store,
-                &mut self.points,
-                line,
-                &request,
-                text,
-            ),
-            Err(fault) => answer_other(alloc, &mut self.store, &mut self.points, line, fault, text),
-        }
+    fn answer(
+        &mut self,
+        alloc: Global,
+        came: &[u8],
+        limit: usize,
+        text: &mut Vec<u8>,
+    ) -> Result<usize, NoMemory> {
+        answer_front(
+            alloc,
+            &mut self.store,
+            &mut self.points,
+            came,
+            limit,
+            text,
+        )
     }
 
     fn too_long(&self, text: &mut Vec<u8>) -> Result<(), NoMemory> {

@@ -12,6 +12,7 @@
 #![tactic(auto)]
 
 mod answering;
+mod fronts;
 mod holding;
 mod keeper;
 mod laws;
@@ -25,6 +26,7 @@ mod reading_texts;
 mod recorded;
 mod requests;
 mod telling;
+mod together;
 
 pub use holding::{MOST_LINE, hold};
 pub use keeper::StoreKeeper;

@@ -1,6 +1,6 @@
 //! The lines that go out.
 
-ghost use Rattle.std.specs.Prelude.{◌≡◌, ◌++◌, Err, OnOk};
+ghost use Rattle.std.specs.Prelude.{◌≡◌, ◌++◌, Err, Ok, OnOk};
 ghost use Rattle.ucon_model.specs.Output.{Lacks, answer_spelling};
 ghost use Rattle.ucon_converse.specs.Replies.{client_line, point_line, ready_line, refusal_line};
 ghost use Rattle.ucon_converse.specs.Said.{answer_said, fault_line, unheard_so};
@@ -28,6 +28,20 @@ pub(crate) fn put_answer(
         Ok(placed) => put_reply(alloc, out, caller, placed.place, &placed.reply),
         Err(fault) => put_unplaced(out, caller, unplaced_words(*fault)),
     }
+}
+
+/// Adds the line of a reply with its place.
+pub(crate) fn put_placed(
+    alloc: Global,
+    out: &mut Vec<u8>,
+    caller: Caller,
+    placed: &Placed,
+) -> Result<(), NoMemory>
+    ensures text { OnOk result (out.new.items ≡ out.old.items ++ client_line caller (answer_said (Ok placed.now))) }
+    ensures line { OnOk result (IsLine (client_line caller (answer_said (Ok placed.now)))) }
+{
+    texts_lack_bytes();
+    put_reply(alloc, out, caller, placed.place, &placed.reply)
 }
 
 /// What stands in a line behind the client where no step was taken.

@@ -15,6 +15,7 @@ ghost use Rattle.ucon_converse.specs.Holding.{standing};
 ghost use Rattle.ucon_converse.specs.Keeping.{IsDated, IsLed, Keeps};
 ghost use Rattle.ucon_converse.specs.Reached.{MayStop, reached_by};
 ghost use Rattle.ucon_converse.specs.Replies.{GoesOn, IsPointed};
+ghost use Rattle.ucon_converse.specs.Together.{IsNoneDueBefore};
 
 use crate::points::Points;
 use std::alloc::Global;
@@ -68,6 +69,17 @@ fn is_due_after<E: Engine, D: Disk>(store: &Store<E, D>, tried: u64) -> bool
         → result ≡ is_due_after P tried (G ++ store.now.entries) }
 {
     is_due(store.place().saturating_sub(tried), size_of(store.state()))
+}
+
+/// Before how many steps more no checkpoint is due, whatever they are, where one was last tried behind so many steps.
+pub(crate) fn steps_until_due<E: Engine, D: Disk>(store: &Store<E, D>, tried: u64) -> usize
+    requires unmarked { store.now.mark ≡ None }
+    ensures { (P : PlainPolicy) (G : History) → accepted store.now.policy ≡ Some P → IsFront P store.now G
+        → IsNoneDueBefore P tried (G ++ store.now.entries) result }
+{
+    let since = store.place().saturating_sub(tried);
+    let due = FEWEST_STEPS.max(size_of(store.state()).saturating_add(1));
+    due.saturating_sub(since) as usize
 }
 
 /// Whether a checkpoint is due so many steps behind the last one that was tried, where there is so much.

@@ -1,20 +1,20 @@
 //! Lines of a source, one by one.
 
-ghost use Rattle.std.specs.Prelude.{◌≡◌, ◌≢◌, ◌⊎◌, ◌+◌, ◌≤◌, ◌<◌, ◌==◌, ◌↔◌, [], length, max, position, nat_lt, IfOk, OnErr, IfSome, IsErrOf, IsTrue};
+ghost use Rattle.std.specs.Prelude.{◌≡◌, ◌≢◌, ◌⊎◌, ◌+◌, ◌≤◌, ◌<◌, ◌==◌, ◌↔◌, [], length, drop, max, position, nat_lt, false, true, IfOk, OnErr, OnOk, IfSome, IsErrOf, IsTrue};
 ghost use Rattle.std.specs.Io.KnownBytes.{IsAtEnd};
 ghost use Rattle.ucon_flow.specs.Causes.{raised};
 ghost use Rattle.ucon_flow.specs.Lines.{newline, HasNewline, IsBare, first_line, Holds, GivesLine, IsNoLine, Skips, IsLeftAlone};
 ghost use Rattle.ucon_flow.specs.Pieces.{Asks};
 
 use crate::{ReadFault, Source};
-use std::alloc::Global;
+use std::alloc::{AllocError, Global};
 use std::marker::Model;
 
-/// The most bytes that are read at once.
-const PIECE: usize = 4096;
+/// The most bytes that are read at once: all that a pipe holds.
+const PIECE: usize = 65536;
 
 /// The lines of a source, each given out once it is there: the source is read only while no whole line is held. At most `limit` bytes and a piece
-/// of 4,096 are held. The limit is a line's, with its newline. To limit a whole source, add up the lengths of the lines that were given. None is
+/// of 65,536 are held. The limit is a line's, with its newline. To limit a whole source, add up the lengths of the lines that were given. None is
 /// longer than the limit, so what is held stays as small as that.
 #[derive(Drop)]
 pub struct LineReader {
@@ -22,6 +22,8 @@ pub struct LineReader {
     seen: Vec<u8>,
     /// How many of the bytes that are kept were given out.
     gone: usize,
+    /// Where a piece is read into; empty until the first one.
+    piece: Vec<u8>,
 }
 
 impl Model for LineReader {
@@ -44,7 +46,15 @@ impl LineReader {
             limit,
             seen: Vec::new(alloc),
             gone: 0,
+            piece: Vec::new(alloc),
         }
+    }
+
+    /// The most bytes of a line, with its newline.
+    pub fn limit(&self) -> usize
+        ensures { result ≡ self.now.limit }
+    {
+        self.limit
     }
 
     /// From now on a line may have so many bytes.
@@ -60,6 +70,47 @@ impl LineReader {
         ensures { IsTrue result ↔ HasNewline self.now.held }
     {
         first_line(self.held()).1
+    }
+
+    /// Reads until a whole line is held. False if the source ends before, and then no newline is held. All lines that have arrived with the first one
+    /// are held then too ([`LineReader::held`]), and can be taken at once ([`LineReader::give_out`]). Behind `TooLong` the next line has more bytes than
+    /// the limit, now and at each further call, until it is skipped.
+    pub fn await_line<S: Source>(&mut self, source: &mut S) -> Result<bool, ReadFault>
+        ensures read { Holds S.seen self.old self.new source.old source.new }
+        ensures line { result ≡ Ok true → HasNewline self.new.held × (length (first_line self.new.held) ≤ self.new.limit) }
+        ensures none { result ≡ Ok false → IsBare self.new.held × IsAtEnd (S.seen source.new).left }
+
+        // The cause of each fault. If the source fails no whole line is held back.
+        ensures too_long { IsErrOf result ReadFault.TooLong → self.new.limit < length (first_line self.new.held) }
+        ensures failed { IsErrOf result ReadFault.SourceFault → (S.seen source.new).faults ≡ raised (S.seen source.old).faults }
+        ensures unfailed { result ≢ Err ReadFault.SourceFault → (S.seen source.new).faults ≡ (S.seen source.old).faults }
+        ensures bare { IsErrOf result ReadFault.SourceFault → IsBare self.new.held }
+
+        // At most one read for each byte within the limit, and one more; none if a whole line is held.
+        ensures reads { (S.seen source.new).reads ≤ (S.seen source.old).reads + self.old.limit + 1 }
+        ensures untouched { HasNewline self.old.held → source.new ≡ source.old }
+        ensures bounded { length self.new.held ≤ max (length self.old.held) (self.old.limit + 65536) }
+    {
+        let len = self.read_line(source)?;
+        if len > self.limit {
+            return Err(ReadFault::TooLong);
+        }
+        Ok(self.has_line())
+    }
+
+    /// Gives out so many bytes of what is held.
+    pub fn give_out(&mut self, len: usize)
+        requires { len ≤ length self.old.held }
+        ensures { self.new ≡ record self.old { held = drop len self.old.held } }
+    {
+        self.gone += len;
+    }
+
+    /// What was read and not given out.
+    pub fn held(&self) -> &[u8]
+        ensures { result.now ≡ self.now.held }
+    {
+        &self.seen[self.gone..]
     }
 
     /// The next line, with the newline that ends it, which the input's last line may lack; None exactly at the input's end. After a
@@ -83,7 +134,7 @@ impl LineReader {
         // At most one read for each byte within the limit, and one more; none if a whole line is held.
         ensures reads { (S.seen source.new).reads ≤ (S.seen source.old).reads + self.old.limit + 1 }
         ensures untouched { HasNewline self.old.held → source.new ≡ source.old }
-        ensures bounded { length self.new.held ≤ max (length self.old.held) (self.old.limit + 4096) }
+        ensures bounded { length self.new.held ≤ max (length self.old.held) (self.old.limit + 65536) }
     {
         let len = self.read_line(source)?;
         if len > self.limit {
@@ -105,7 +156,7 @@ impl LineReader {
         ensures failed { IsErrOf result ReadFault.SourceFault → (S.seen source.new).faults ≡ raised (S.seen source.old).faults }
         ensures unfailed { result ≢ Err ReadFault.SourceFault → (S.seen source.new).faults ≡ (S.seen source.old).faults }
         ensures untouched { HasNewline self.old.held → source.new ≡ source.old }
-        ensures bounded { length self.new.held ≤ max (length self.old.held) 4096 }
+        ensures bounded { length self.new.held ≤ max (length self.old.held) 65536 }
     {
         for _piece in 0..u64::MAX {
             let (len, whole) = first_line(self.held());
@@ -119,13 +170,6 @@ impl LineReader {
             }
         }
         Err(ReadFault::TooLong)
-    }
-
-    /// What was read and not given out.
-    fn held(&self) -> &[u8]
-        ensures { result.now ≡ self.now.held }
-    {
-        &self.seen[self.gone..]
     }
 
     /// Drops all that is held.
@@ -148,7 +192,7 @@ impl LineReader {
         ensures bare { OnErr result (IsBare self.new.held) }
         ensures reads { (S.seen source.new).reads ≤ (S.seen source.old).reads + self.old.limit + 1 }
         ensures untouched { HasNewline self.old.held → source.new ≡ source.old }
-        ensures bounded { length self.new.held ≤ max (length self.old.held) (self.old.limit + 4096) }
+        ensures bounded { length self.new.held ≤ max (length self.old.held) (self.old.limit + 65536) }
     {
         let (mut len, mut whole) = first_line(self.held());
         while !whole && len <= self.limit {
@@ -165,7 +209,7 @@ impl LineReader {
     /// Reads one piece, and tells how many bytes it has, none at the input's end. Room is made first, so that what was read is never lost.
     fn read_piece<S: Source>(&mut self, source: &mut S) -> Result<usize, ReadFault>
         ensures asked { Asks S.seen self.old self.new source.old source.new }
-        ensures count { IfOk result (λ n. (length self.new.held ≡ length self.old.held + n) × (n ≤ 4096)) }
+        ensures count { IfOk result (λ n. (length self.new.held ≡ length self.old.held + n) × (n ≤ 65536)) }
         ensures same { OnErr result (self.new ≡ self.old) }
         ensures end { result ≡ Ok 0 → IsAtEnd (S.seen source.new).left }
         ensures long { result ≢ Err ReadFault.TooLong }
@@ -175,9 +219,9 @@ impl LineReader {
     {
         self.close_up();
         self.seen.reserve(PIECE)?;
-        let mut piece = [0u8; PIECE];
-        let n = source.read(&mut piece)?;
-        if self.seen.extend_from_slice(&piece[..n]).is_err() {
+        make_room(&mut self.piece)?;
+        let n = source.read(&mut self.piece)?;
+        if self.seen.extend_from_slice(&self.piece[..n]).is_err() {
             unreachable!()
         }
         Ok(n)
@@ -194,6 +238,16 @@ impl LineReader {
             self.gone = 0;
         }
     }
+}
+
+/// Makes a piece's bytes, if they aren't there yet.
+fn make_room(piece: &mut Vec<u8>) -> Result<(), AllocError>
+    ensures { OnOk result (length piece.new.items ≡ 65536) }
+{
+    if piece.len() != PIECE {
+        piece.resize(PIECE, 0)?;
+    }
+    Ok(())
 }
 
 /// How many bytes the first line has, with its newline, and whether it has one.

@@ -9,6 +9,7 @@ use Rattle.ucon_disk.specs.Disk.{Elapses, Follows, HasPlace, NoneNew, Only, Same
 use Rattle.ucon_disk.specs.Seen.{DiskSeen}
 use Rattle.ucon_disk.specs.Run.{LeavesOnly, goes_on, joined, started, weaker}
 use Rattle.ucon_flow.specs.Lines.{IsLine}
+use Rattle.ucon_tell.specs.Told.{Told}
 
 -- the file begins with these bytes
 abbrev pub BeginsWith : List ℕ → List ℕ → Type 0
@@ -27,6 +28,10 @@ begins_trans a b c p q =
 -- the reply to a line, from what was kept to what is: it is kept, or it is lost
 abbrev pub IsAnswer : List ℕ → List ℕ → List ℕ → List ℕ → Type 0
 IsAnswer old new line reply = ((reply ≡ codes "kept\n") × (new ≡ old ++ (line ++ 10 ∷ []))) ⊎ ((reply ≡ codes "lost\n") × (new ≡ old))
+
+-- one line was told so
+abbrev pub IsToldOf : List ℕ → List ℕ → List Told → Type 0
+IsToldOf old new told = (one : Told) × (told ≡ one ∷ []) × IsAnswer old new one.line one.reply
 
 pub kept_line : IsLine (codes "kept\n")
 kept_line = record { text = codes "kept"; bare = refl; line_is = refl }

@@ -1,6 +1,6 @@
 //! A keeper over a disk, and what was told beside what a crash leaves.
 ghost use Rattle.std.specs.Prelude.{◌≡◌, ◌≤◌, ◌++◌, ℕ, List, None, length, codes, OnOk};
-ghost use Rattle.ucon_lower_tests.specs.Keeping.{BeginsWith, IsAnswer, Keeps, KeepsOn, at_least, keeps_again, keeps_still, no_less};
+ghost use Rattle.ucon_lower_tests.specs.Keeping.{BeginsWith, IsToldOf, Keeps, KeepsOn, at_least, keeps_again, keeps_still, no_less};
 
 use std::alloc::Global;
 use std::test::Fail;
@@ -41,7 +41,7 @@ impl<D: Disk + Drop> Keeper for Scribe<D> {
     ghost stays = { λ x y. ((D.seen x.disk).moment ≤ (D.seen y.disk).moment) × (Keeps (D.seen x.disk) x.kept.items
         → KeepsOn (D.seen x.disk) (D.seen y.disk) x.kept.items y.kept.items) };
 
-    ghost answers = { λ x y line reply. IsAnswer x.kept.items y.kept.items line reply };
+    ghost answers = { λ x y told. IsToldOf x.kept.items y.kept.items told };
 
     ghost refuses = { λ _ reply. reply ≡ codes "too long\n" };
 
@@ -56,20 +56,28 @@ impl<D: Disk + Drop> Keeper for Scribe<D> {
       λ k. keeps_again (D.seen x.disk) (D.seen y.disk) (D.seen z.disk) x.kept.items y.kept.items z.kept.items (p.1 k) (q.1 (p.1 k).keeps),
     ) };
 
-    fn answer(&mut self, alloc: Global, line: &[u8], text: &mut Vec<u8>) -> Result<(), NoMemory> {
-        let mut bytes = line.to_vec(alloc)?;
-        bytes.push(b'\n')?;
-        match put(&mut self.disk, self.kept.len() as u64, &bytes) {
+    fn answer(
+        &mut self,
+        alloc: Global,
+        came: &[u8],
+        _limit: usize,
+        text: &mut Vec<u8>,
+    ) -> Result<usize, NoMemory> {
+        let len = match came.iter().position(|byte| *byte == b'\n') {
+            Some(at) => at + 1,
+            None => unreachable!(),
+        };
+        self.kept.reserve(len)?;
+        text.reserve(5)?;
+        let reply = match put(&mut self.disk, self.kept.len() as u64, &came[..len]) {
             Ok(()) => {
-                self.kept.extend_from_slice(&bytes)?;
-                text.extend_from_slice(b"kept\n")?;
-                Ok(())
+                self.kept.extend_from_slice(&came[..len]).unwrap();
+                b"kept\n"
             }
-            Err(_) => {
-                text.extend_from_slice(b"lost\n")?;
-                Ok(())
-            }
-        }
+            Err(_) => b"lost\n",
+        };
+        text.extend_from_slice(reply).unwrap();
+        Ok(len)
     }
 
     fn too_long(&self, text: &mut Vec<u8>) -> Result<(), NoMemory> {

@@ -1,5 +1,7 @@
 //! Readings and checkpoints in a conversation. The lines that they are told were worked out by hand.
 
+ghost use Rattle.std.specs.Prelude.{◌≤◌};
+
 use std::alloc::Global;
 use std::test::Fail;
 use ucon_cascade::Monitor;
@@ -16,9 +18,17 @@ struct End {
     disk: MemDisk,
 }
 
-/// Holds a conversation over this input.
-fn held(alloc: Global, from: PolicyFrom, input: &[u8], disk: MemDisk) -> Result<End, Fail> {
-    let mut source = MemSource::new(Vec::from_slice(alloc, input)?, 7, Vec::new(alloc));
+/// Holds a conversation over this input, of which so many bytes arrive at once.
+fn arrived(
+    alloc: Global,
+    from: PolicyFrom,
+    input: &[u8],
+    piece: usize,
+    disk: MemDisk,
+) -> Result<End, Fail>
+    requires { 1 ≤ piece }
+{
+    let mut source = MemSource::new(Vec::from_slice(alloc, input)?, piece, Vec::new(alloc));
     let mut voice = SinkVoice::new(MemSink::new(alloc, 5, Vec::new(alloc)));
     let ended = converse::<Monitor, _, _, _>(alloc, from, &mut source, &mut voice, disk);
     let told = Vec::from_slice(alloc, voice.into_sink().bytes())?;
@@ -27,6 +37,11 @@ fn held(alloc: Global, from: PolicyFrom, input: &[u8], disk: MemDisk) -> Result<
         told,
         disk: ended.disk,
     })
+}
+
+/// The same where seven bytes arrive at once.
+fn held(alloc: Global, from: PolicyFrom, input: &[u8], disk: MemDisk) -> Result<End, Fail> {
+    arrived(alloc, from, input, 7, disk)
 }
 
 const INPUT: &[u8] = b"attr o users : int 0..9 = 0; # a \"seat\"
@@ -218,6 +233,77 @@ fn behind_a_disk_fault_nothing_more_is_done(rt: HostRuntime) -> Result<(), Fail>
                 .any(|told| end.told.as_slice() == *told),
             "call {call}"
         );
+    }
+    Ok(())
+}
+
+/// Lines that arrive together are told what each alone would be, and leave the same file, by fewer calls of the disk.
+#[test]
+fn lines_that_arrive_together_are_told_the_same(rt: HostRuntime) -> Result<(), Fail> {
+    let alloc = rt.alloc();
+    for input in [INPUT, &ticks(alloc, 4_100)?] {
+        let disk = MemDisk::new(alloc, Vec::new(alloc), Vec::new(alloc), None);
+        let alone = arrived(alloc, PolicyFrom::Input, input, 1, disk)?;
+        let disk = MemDisk::new(alloc, Vec::new(alloc), Vec::new(alloc), None);
+        let together = arrived(alloc, PolicyFrom::Input, input, 65_536, disk)?;
+        assert!(rt; together.status == 0);
+        assert!(rt; together.told == alone.told);
+        assert!(rt; together.disk.contents() == alone.disk.contents());
+        assert!(rt; together.disk.moment() < alone.disk.moment());
+    }
+    Ok(())
+}
+
+const BATCH: &[u8] = b"right r {}
+%%
+0 subject ann
+0 subject ann
+0 subject ben
+steps
+";
+
+/// All that may be told of these lines where one call of the disk fails: nothing; that the first step met the fault, and all behind it is stopped; or all.
+const TOLD_OF_A_BATCH: &[&[u8]] = &[
+    b"",
+    b"- 0 ready\n0 - disk fault\n0 - stopped\n0 - stopped\n- - stopped\n",
+    b"- 0 ready\n0 1 ok\n0 1 exists\n0 2 ok\n- 2 steps\n",
+];
+
+#[test]
+fn a_batch_meets_a_disk_fault_whole(rt: HostRuntime) -> Result<(), Fail> {
+    let alloc = rt.alloc();
+    for call in 0..40 {
+        let failing = Vec::from_slice(alloc, &[call])?;
+        let disk = MemDisk::new(alloc, Vec::new(alloc), failing, None);
+        let end = arrived(alloc, PolicyFrom::Input, BATCH, 65_536, disk)?;
+        assert!(rt;
+            TOLD_OF_A_BATCH
+                .iter()
+                .any(|told| end.told.as_slice() == *told),
+            "call {call}"
+        );
+    }
+    Ok(())
+}
+
+/// A conversation that stops after so many calls of the disk had told no more steps than each image holds.
+#[test]
+fn what_was_told_of_batches_is_found(rt: HostRuntime) -> Result<(), Fail> {
+    let alloc = rt.alloc();
+    for calls in 0..24 {
+        let disk = MemDisk::new(alloc, Vec::new(alloc), Vec::new(alloc), Some(calls));
+        let end = arrived(alloc, PolicyFrom::Input, BATCH, 65_536, disk)?;
+        let least = if end.told.as_slice() == TOLD_OF_A_BATCH[2] { 2 } else { 0 };
+        for len in 0..80 {
+            for fill in [0, 1, 255] {
+                if let Some(image) = end.disk.image(len, &[fill; 256])? {
+                    let disk = MemDisk::new(alloc, image, Vec::new(alloc), None);
+                    let again = held(alloc, PolicyFrom::Input, b"right r {}\n%%\n", disk)?;
+                    let found = again.told.as_slice();
+                    assert!(rt; found == b"- 2 ready\n".as_slice() || least == 0 && found == b"- 0 ready\n".as_slice(), "{calls} {len} {fill}");
+                }
+            }
+        }
     }
     Ok(())
 }

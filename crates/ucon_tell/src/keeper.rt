@@ -1,13 +1,14 @@
 //! Who answers lines.
 
-ghost use Rattle.std.specs.Prelude.{◌≤◌, ℕ, List, OnErr, OnOk};
+ghost use Rattle.std.specs.Prelude.{◌≡◌, ◌⊎◌, ◌≤◌, ◌<◌, ℕ, List, IfOk, OnErr, OnOk};
+ghost use Rattle.ucon_flow.specs.Lines.{HasNewline, newline};
 ghost use Rattle.ucon_tell.specs.Seen.{KeeperSeen};
-ghost use Rattle.ucon_tell.specs.Told.{HasPerhapsAnswered, IsReplied};
+ghost use Rattle.ucon_tell.specs.Told.{AreAnsweredUntold, AreReplied, IsFrontOf, IsReplied, Told};
 
 use std::alloc::Global;
 use ucon_base::NoMemory;
 
-/// What answers lines one by one, and keeps on a disk what it answered.
+/// What answers lines, one by one or several together, and keeps on a disk what it answered.
 pub trait Keeper {
     /// The moment of its disk, what a crash may leave, and which images hold what it has answered.
     ghost seen: { Self → KeeperSeen };
@@ -15,17 +16,27 @@ pub trait Keeper {
     /// What its calls leave true between it and what it becomes.
     ghost stays: { Self → Self → Type 0 };
 
-    /// From one state to the next it gives this reply to this line, which stands here without its newline.
-    ghost answers: { Self → Self → List ℕ → List ℕ → Type 0 };
+    /// From one state to the next it gives these replies to these lines, together.
+    ghost answers: { Self → Self → List Told → Type 0 };
 
     /// It gives this reply to a line that is too long.
     ghost refuses: { Self → List ℕ → Type 0 };
 
-    /// Answers a line, given without its newline, and adds the reply, one line with its newline, to a text. What the reply tells is kept when this
-    /// returns. If there is no memory the line may have been answered, and no reply is told.
-    fn answer(&mut self, alloc: Global, line: &[u8], text: &mut Vec<u8>) -> Result<(), NoMemory>
-        ensures reply { OnOk result (IsReplied (answers self.old self.new line.now) text.old.items text.new.items) }
-        ensures failed { OnErr result (HasPerhapsAnswered (λ x y reply. answers x y line.now reply) self.old self.new) }
+    /// Answers lines from the front of the bytes that came, and adds their replies to a text, in order: for each line one line with its newline. The
+    /// first line is whole, and has at most `limit` bytes with its newline. It is answered, and with it as many whole lines behind it, none of them
+    /// longer, as the keeper answers together. Tells how many bytes these lines have. What the replies tell is kept when this returns. If there is no
+    /// memory, lines from the front may have been answered, and no reply is told.
+    fn answer(
+        &mut self,
+        alloc: Global,
+        came: &[u8],
+        limit: usize,
+        text: &mut Vec<u8>,
+    ) -> Result<usize, NoMemory>
+        requires whole { HasNewline came.now }
+        requires fits { newline came.now < limit }
+        ensures reply { IfOk result (λ n. AreReplied limit (answers self.old self.new) came.now n text.old.items text.new.items) }
+        ensures failed { OnErr result ((self.old ≡ self.new) ⊎ AreAnsweredUntold limit answers (λ lines. IsFrontOf lines came.now) self.old self.new) }
         ensures stays { stays self.old self.new };
 
     /// Adds the reply to a line that is too long, which nobody has read.

@@ -42,6 +42,7 @@ impl<E: Engine, D: Disk> Store<E, D> {
         ensures full { result.end ≡ BatchEnd.Full → 0 < result.taken }
         ensures cut { result.end ≢ BatchEnd.DiskFault → length result.placed.items ≡ result.taken }
         ensures short { length result.placed.items ≤ result.taken }
+        ensures doubted { result.end ≡ BatchEnd.DiskFault → length result.placed.items < result.taken }
         ensures batched_behind { (P : PlainPolicy) (T : Trace) → accepted self.old.policy ≡ Some P → IsStart P self.old.point self.old.before T
             → IsBatchedBehind P T self.old self.new lines.now result }
         ensures batched { (P : PlainPolicy) (G : History) → accepted self.old.policy ≡ Some P → IsFront P self.old G

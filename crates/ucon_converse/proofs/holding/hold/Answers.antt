@@ -5,7 +5,7 @@ use Rattle.ucon_tell.specs.Heard.{Hears}
 use Rattle.ucon_tell.specs.Talk.{HasTalked}
 use Rattle.ucon_tell.specs.declared.talk_fault.TalkFault.{TalkFault}
 use Rattle.ucon_converse.specs.Greeting.{HasGreeted}
-use Rattle.ucon_converse.specs.Keeping.{GivesReply, Keeps, Refuses, kept_seen, moment_of}
+use Rattle.ucon_converse.specs.Keeping.{GivesReplies, Keeps, Refuses, kept_seen, moment_of}
 use Rattle.ucon_converse.specs.KeeperLaws.{keeps_same}
 use Rattle.ucon_converse.proofs.Conversing.{conversed, not_greeted, nothing_heard}
 use Rattle.ucon_converse.proofs.Overall.{answered_at, not_greeted_at}
@@ -24,7 +24,7 @@ returns-clause-conversed g c = λ P G places accepts front unmarked.
     (g.V.Voice.seen c.args.out.now) (g.V.Voice.seen c.greet.new.out) (g.V.Voice.seen c.talk.new.out) (first.store.before + length first.store.entries) count accepts front unmarked
     (λ told K failed. laws.legal P H told K failed) (λ told K failed. laws.made P H told K failed) (λ told K failed. laws.failed P H told K failed) hears
     c.talk.result c.in_ok-greet.ensures.greeted
-    (subst (λ (n : ℕ). HasTalked (kept_seen seen) (Keeps seen) (GivesReply seen) Refuses n c.talk.result first last (g.V.Voice.seen c.greet.new.out) (g.V.Voice.seen c.talk.new.out) hears)
+    (subst (λ (n : ℕ). HasTalked (kept_seen seen) (Keeps seen) (GivesReplies seen) Refuses n c.talk.result first last (g.V.Voice.seen c.greet.new.out) (g.V.Voice.seen c.talk.new.out) hears)
     c.requires c.talk.ensures.talked)
 
 pub returns-clause-answered : goal.returns-clause-answered
@@ -33,7 +33,7 @@ returns-clause-answered g c = λ P T accepts starts.
     let hears : List ℕ → Type 0 = λ lines. Hears c.talk.result c.args.lines.now.held c.talk.new.lines.held (g.S.Source.seen c.args.input.now).left (g.S.Source.seen c.talk.new.input).left lines in
     answered_at seen g.met.D.Disk.only_now g.met.D.Disk.as_read g.met.D.Disk.counts_now g.met.D.Disk.since_earlier P T c.args.keeper.now c.talk.new.keeper
     (g.V.Voice.seen c.args.out.now) (g.V.Voice.seen c.greet.new.out) (g.V.Voice.seen c.talk.new.out) hears c.talk.result accepts starts c.in_ok-greet.ensures.greeted
-    (subst (λ (n : ℕ). HasTalked (kept_seen seen) (Keeps seen) (GivesReply seen) Refuses n c.talk.result c.args.keeper.now c.talk.new.keeper (g.V.Voice.seen c.greet.new.out) (g.V.Voice.seen c.talk.new.out) hears)
+    (subst (λ (n : ℕ). HasTalked (kept_seen seen) (Keeps seen) (GivesReplies seen) Refuses n c.talk.result c.args.keeper.now c.talk.new.keeper (g.V.Voice.seen c.greet.new.out) (g.V.Voice.seen c.talk.new.out) hears)
     c.requires c.talk.ensures.talked)
 
 pub returns-clause-keeps : goal.returns-clause-keeps

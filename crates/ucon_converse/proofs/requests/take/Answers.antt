@@ -1,4 +1,4 @@
-use Rattle.std.proofs.Common.{rules, ◌≡◌, Ok, refl, sym, subst, ◌∙◌}
+use Rattle.std.proofs.Common.{rules, ◌≡◌, ◌∷◌, [], Ok, refl, sym, subst, ◌∙◌}
 use Rattle.std.specs.Prelude.{None, Some}
 use Rattle.ucon_model.specs.declared.command.Command.{Command}
 use Rattle.ucon_model.specs.declared.command.Entry.{Entry}
@@ -11,7 +11,7 @@ use Rattle.ucon_converse.specs.Holding.{stands}
 use Rattle.ucon_converse.specs.Reached.{IsStepAt, reached_by}
 use Rattle.ucon_converse.specs.Replies.{IsStep}
 use Rattle.ucon_converse.specs.Said.{answer_said}
-use Rattle.ucon_converse.proofs.Checkpoints.{keeps_nothing, keeps_step}
+use Rattle.ucon_converse.proofs.Checkpoints.{keeps_nothing, keeps_steps}
 use Rattle.ucon_converse.proofs.Reaching.{steps_at}
 use Rattle.ucon_converse.proofs.Stepping.{if_ok, store_steps}
 use Rattle.ucon_converse.proofs.Unpointed.{places_unpointed, step_unpointed}
@@ -55,9 +55,9 @@ returns-clause-keeps g c = λ made tried.
     let now = c.step.new.self in
     let e : Entry = record { caller = c.args.request.now.caller; command = c.in_ok-command.command } in
     let none : was.mark ≡ None = search rules in
-    keeps_step g.D.Disk.seen g.met.D.Disk.only_now g.met.D.Disk.as_read g.met.D.Disk.counts_now was now made tried
-    (step_payload led.P led.begun was.entries e)
-    (places_unpointed (step_payload led.P led.begun was.entries e) (step_unpointed led.P led.begun was.entries e c.requires.few))
+    keeps_steps g.D.Disk.seen g.met.D.Disk.only_now g.met.D.Disk.as_read g.met.D.Disk.counts_now was now made tried
+    (step_payload led.P led.begun was.entries e ∷ [])
+    (places_unpointed (step_payload led.P led.begun was.entries e ∷ []) (step_unpointed led.P led.begun was.entries e c.requires.few, tt))
     c.step.ensures.stays c.step.ensures.stays.mark
     (λ file unmarked told. c.step.ensures.adds led.P led.begun file led.accepts led.starts unmarked told) none
 

@@ -12,7 +12,7 @@ invariant-loop-whole g l = record {
   unfailed : (g.S.Source.seen l.source).faults ≡ (g.S.Source.seen l.fn.source).faults;
   untouched : HasNewline l.initial.self.held → l.source ≡ l.fn.source;
   reads : (g.S.Source.seen l.source).reads ≤ (g.S.Source.seen l.fn.source).reads + min l.len (l.self.limit + 1);
-  bounded : length l.self.held ≤ max (length l.initial.self.held) (l.self.limit + 4096);
+  bounded : length l.self.held ≤ max (length l.initial.self.held) (l.self.limit + 65536);
 }
 
 abbrev pub decreases-loop-whole : goal.decreases-loop-whole

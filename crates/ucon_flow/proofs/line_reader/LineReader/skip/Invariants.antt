@@ -10,5 +10,5 @@ invariant-loop-piece g l = record {
   some : l._piece ≤ length (so_far.skipped ++ l.self.held);
   unfailed : (g.S.Source.seen l.source).faults ≡ (g.S.Source.seen l.fn.source).faults;
   untouched : HasNewline l.initial.self.held → (l.source ≡ l.fn.source) × (l.self ≡ l.initial.self);
-  bounded : length l.self.held ≤ max (length l.initial.self.held) 4096;
+  bounded : length l.self.held ≤ max (length l.initial.self.held) 65536;
 }

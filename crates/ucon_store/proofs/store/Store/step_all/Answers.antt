@@ -1,4 +1,5 @@
 use Rattle.std.proofs.Common.{rules, ◌≡◌, ◌≢◌, ◌+◌, ◌*◌, ◌≤◌, ◌∷◌, [], ◌++◌, List, length, take, true, false, None, Some, refl, sym, ap, ◌∙◌, subst, arith}
+use Rattle.std.proofs.lemmas.List.{length-take}
 use Rattle.ucon_journal.specs.Journal.{batch_of, disk_of}
 use Rattle.ucon_journal.specs.JournalBytes.{records}
 use Rattle.ucon_model.specs.Action.{Trace}
@@ -6,7 +7,7 @@ use Rattle.ucon_model.specs.Batches.{changing}
 use Rattle.ucon_model.specs.History.{History, trace_from}
 use Rattle.ucon_model.specs.Plain.{Bytes, PlainPolicy}
 use Rattle.ucon_syntax.specs.Policies.{accepted}
-use Rattle.ucon_store.specs.Batched.{batch_behind}
+use Rattle.ucon_store.specs.Batched.{batch_behind, changing_after}
 use Rattle.ucon_store.specs.Filling.{AreTakenUp, Filled, filled}
 use Rattle.ucon_store.specs.Kept.{Kept}
 use Rattle.ucon_store.specs.Stays.{Stays, stays_same}
@@ -146,6 +147,27 @@ returns-in-Err-clause-batched_behind g c = λ P T accepts start.
     let before = (goal.at.returns-in-Err-clause-batched_behind g c).After-take_all-end in
     batched_failed c.self.invariant c.self.view_is (none g before) (fills g before) P T accepts start _
     (c.truncate.ensures.items ∙ ap (take c.take_all-end.new.batch.sure) c.into_vec-placed.ensures) (search rules) refl (search rules) refl
+
+pub returns-in-Err-clause-doubted : goal.returns-in-Err-clause-doubted
+returns-in-Err-clause-doubted g c = λ _.
+    let before = (goal.at.returns-in-Err-clause-doubted g c).After-take_all-end in
+    let inv = c.self.invariant in
+    let T = trace_from inv.P inv.begun c.self.inside.entries in
+    let f = fills g before in
+    let stands = inv.stands (none g before) inv.begun inv.starts in
+    let taken = f.taken inv.P T stands in
+    let placed = c.take_all-end.new.batch.placed.items in
+    let some : changing_after inv.P T (take (length placed) c.args.lines.now) ≢ [] =
+    λ nothing.
+    let yes : c.is_empty.result ≡ true = c.is_empty.ensures.1 (taken.entries ∙ nothing) in
+    let bad : true ≡ false = sym yes ∙ c.if-is_empty.false in
+    cc bad in
+    let within = (f.surely inv.P T stands).within some in
+    let all : length c.into_vec-placed.result.items ≡ length placed = ap length c.into_vec-placed.ensures in
+    let cut = ap length c.truncate.ensures.items in
+    let few = length-take c.take_all-end.new.batch.sure c.into_vec-placed.result.items in
+    let count : c.len-taken.result ≡ length c.into_vec-placed.result.items = search rules in
+    omega arith
 
 pub returns-in-Err-clause-batched : goal.returns-in-Err-clause-batched
 returns-in-Err-clause-batched g c = λ P G accepts front.
