@@ -14,7 +14,7 @@ use Rattle.ucon_flow.specs.Reading.{ReadsFront}
 use Rattle.ucon_flow.specs.Seen.{SourceSeen}
 use Rattle.ucon_model.specs.Plain.{Bytes}
 use Rattle.ucon_model.specs.Document.{is_divider, before_divider, lines_of, policy_part, script_lines, script_number}
-use Rattle.ucon_script.specs.Coming.{Coming, text_of, IsNext, ComesLine, HoldsMore, HasOpened, lines_left, Takes, ComeLines, IsAbove, IsLongPart, IsUndivided, Opens, most_lines}
+use Rattle.ucon_script.specs.Coming.{Coming, text_of, IsNext, ComesLine, HoldsMore, HasOpened, lines_left, Takes, ComeLines, IsEnded, IsAbove, IsLongPart, IsUndivided, Opens, most_lines}
 
 -- ---- one line
 
@@ -48,8 +48,15 @@ module _ {S : Type 0} (seen : S → SourceSeen) where
   pub takes_line : (old new : Coming) (first last : S) (line : Bytes) → (h : ComesLine seen old new first last line) → Takes seen old new first last h.read
   takes_line old new first last line h = record {
     consumed = h.consumed;
-    room = omega (arith, h.room, ap length h.all, length-append old.held h.read, length-append line new.held);
+    out = line;
+    all = h.all;
+    room = h.room;
   }
+
+  -- nothing comes behind the last line
+  pub line_ends : (old new : Coming) (first last : S) (line : Bytes) → ComesLine seen old new first last line → old.over ≡ false → new.over ≡ true
+      → IsEnded seen new last
+  line_ends old new first last line h running over = ⊎_elim (λ n. absurd (cc (n.0, over))) (λ l. (l.2, l.3)) h.next
 
   pub one_line : (old new : Coming) (first last : S) (line : Bytes) → old.over ≡ false → ComesLine seen old new first last line
       → ComeLines seen old new first last (text_of line ∷ [])
@@ -58,6 +65,7 @@ module _ {S : Type 0} (seen : S → SourceSeen) where
     takes = takes_line old new first last line h;
     lines = λ more may. left_is more ∙ ⊎_elim (with_newline more) (λ l. the_last more l (may l.0)) h.next;
     ended = λ over. absurd (cc (running, over));
+    at_end = line_ends old new first last line h;
   }
     where
       left_is : (more : Bytes) → lines_left old (h.read ++ more) ≡ lines_of ((line ++ new.held) ++ more)
@@ -80,9 +88,10 @@ module _ {S : Type 0} (seen : S → SourceSeen) where
   pub no_line : (c : Coming) (s : S) → ComeLines seen c c s s []
   no_line c s = record {
     read = [];
-    takes = record { consumed = Consumes-nil (seen s).left; room = omega arith };
+    takes = record { consumed = Consumes-nil (seen s).left; out = []; all = append-nil c.held; room = omega arith };
     lines = λ more may. refl;
     ended = λ over. (refl, refl);
+    at_end = λ running over. absurd (cc (running, over));
   }
 
   -- further lines were given out
@@ -92,13 +101,19 @@ module _ {S : Type 0} (seen : S → SourceSeen) where
     read = g.read ++ n.read;
     takes = record {
       consumed = Consumes-trans (seen first).left (seen mid).left (seen last).left g.read n.read g.takes.consumed n.takes.consumed;
-      room = omega (arith, g.takes.room, n.takes.room, length-append g.read n.read);
+      out = g.takes.out ++ n.takes.out;
+      all = sym (append_assoc a.held g.read n.read)
+          ∙ (ap (λ (x : Bytes). x ++ n.read) g.takes.all
+          ∙ (append_assoc g.takes.out b.held n.read
+          ∙ (ap (λ (x : Bytes). g.takes.out ++ x) n.takes.all ∙ sym (append_assoc g.takes.out n.takes.out c.held))));
+      room = omega (arith, g.takes.room, n.takes.room, length-append g.takes.out n.takes.out);
     };
     lines = λ more may.
         ap (λ (t : Bytes). lines_left a t) (append_assoc g.read n.read more)
         ∙ (g.lines (n.read ++ more) (λ over. absurd (cc (running, over)))
         ∙ (ap (λ (l : List Bytes). given ++ l) (n.lines more may) ∙ sym (append_assoc given next (lines_left c more))));
     ended = λ over. absurd (cc (running, ap (λ (k : Coming). k.over) (g.ended over).0, over));
+    at_end = λ _ over. n.at_end running over;
   }
 
 -- ---- above the divider
@@ -277,7 +292,10 @@ module _ {S : Type 0} (seen : S → SourceSeen) (policy : Bytes) (old new : Comi
   opened_at line h here = record {
     read = policy ++ (line ++ new.held);
     consumed = read_on line h;
-    room = omega (arith, h.room, so_far.room, length-append policy (line ++ new.held), length-append line new.held);
+    front = policy ++ line;
+    all = sym (append_assoc policy line new.held);
+    room = omega (arith, h.room, so_far.room, length-append policy line);
+    at_end = λ over. ⊎_elim (λ n. absurd (cc (n.0, over))) (λ l. (l.2, l.3)) h.next;
     opens = opened policy line above new (seen last).left so_far.none h.next here;
   }
 
@@ -288,7 +306,10 @@ module _ {S : Type 0} (seen : S → SourceSeen) (policy : Bytes) (old new : Comi
       let ended : (new.over ≡ true) × IsBare line × (new.held ≡ []) × IsAtEnd (seen last).left = ⊎_elim (λ n. absurd (cc (n.0, over))) (λ l. l) h.next in record {
         read = policy ++ (line ++ new.held);
         consumed = read_on line h;
-        room = omega (arith, h.room, so_far.room, length-append policy (line ++ new.held), length-append line new.held);
+        front = policy ++ line;
+        all = sym (append_assoc policy line new.held);
+        room = omega (arith, h.room, so_far.room, length-append policy line);
+        at_end = λ _. (ended.2, ended.3);
         opens = subst (λ (p : Bytes). Opens p new (above + 2) (policy ++ (line ++ new.held))) (sym grown)
             (undivided policy line above new (seen last).left so_far.none (above + 2) ended other);
       }

@@ -1,6 +1,8 @@
 -- Lines of a script that are judged as they come.
 use Rattle.std.proofs.Common.{◌≡◌, ◌+◌, ◌<◌, Bool, true, false, List, [], ◌∷◌, ◌++◌, length, refl, sym, ap, ◌∙◌, subst, arith, append_assoc, length-append}
-use Rattle.std.specs.Prelude.{Option, None, option_to_list, Result, Ok, Err}
+use Rattle.std.specs.Prelude.{Option, None, Some, IfSome, option_to_list, Result, Ok, Err}
+use Rattle.std.specs.Io.KnownBytes.{Consumes, IsAtEnd}
+use Rattle.std.proofs.KnownBytes.{Consumes-trans}
 use Rattle.std.proofs.lemmas.List.{append-nil}
 use Rattle.ucon_flow.specs.Lines.{IsBare, first_line}
 use Rattle.ucon_flow.specs.Seen.{SourceSeen}
@@ -15,12 +17,12 @@ use Rattle.ucon_script.specs.declared.doc_fault.DocFault.TheVariants as faults
 use Rattle.ucon_script.specs.declared.script_stop.ScriptStop.TheVariants.{Refused}
 use Rattle.ucon_script.specs.declared.script_stop.ScriptStop.TheVariants as stops
 use Rattle.ucon_base.specs.declared.no_memory.NoMemory.{NoMemory}
-use Rattle.ucon_script.specs.Coming.{Coming, text_of, ComesLine, ComeLines, HoldsMore, MayCome, lines_left, HasOpened}
-use Rattle.ucon_script.specs.ComingScript.{told_next, told_left, Says, IsRefusal, StopsBy, Stops, IsFedBy}
+use Rattle.ucon_script.specs.Coming.{Coming, text_of, ComesLine, ComeLines, Gives, HoldsMore, MayCome, lines_left, HasOpened}
+use Rattle.ucon_script.specs.ComingScript.{told_next, told_left, Says, IsRefusal, StopsBy, Stops, IsFedBy, IsFedToFaultBy, IsFedToLimitBy, IsFedToRefusalBy, IsFedWholeBy}
 use Rattle.ucon_script.specs.Document.{IsCause}
 use Rattle.ucon_script.specs.Lines.{after_told, client_after, count_after, told_from}
 use Rattle.ucon_script.specs.Stopping.{stop_of_line, stop_of_reading}
-use Rattle.ucon_script.proofs.Arriving.{more_lines, no_line, one_line, takes_line}
+use Rattle.ucon_script.proofs.Arriving.{line_ends, more_lines, no_line, one_line, only_line, takes_line}
 use Rattle.ucon_script.proofs.Scripts.{cause_stays, told_below}
 
 -- ---- one line
@@ -73,13 +75,13 @@ module _ {S : Type 0} (seen : S → SourceSeen) where
 
   -- ---- what stops
 
-  by_line : (old new : ComingScript) (read : Bytes) (f : DocFault) → ((more : Bytes) → MayCome new.lines more → IsCause (told_left old (read ++ more)) f)
-      → StopsBy old new read (stop_of_line f)
-  by_line old new read (faults.NoMemory e) cause = tt
-  by_line old new read (faults.BadHeading n) cause = cause
-  by_line old new read (faults.BadLine n f) cause = cause
-  by_line old new read (faults.TooManyClients n) cause = cause
-  by_line old new read (faults.TooManyLines n) cause = cause
+  by_line : (old new : ComingScript) (read line : Bytes) (f : DocFault) → Gives old.lines new.lines read (line ∷ [])
+      → ((next : List Bytes) → IsCause (told_next old (line ∷ next)) f) → StopsBy old new read (stop_of_line f)
+  by_line old new read line (faults.NoMemory e) given cause = tt
+  by_line old new read line (faults.BadHeading n) given cause = record { line = line; given = given; refused = cause }
+  by_line old new read line (faults.BadLine n f) given cause = record { line = line; given = given; refused = cause }
+  by_line old new read line (faults.TooManyClients n) given cause = record { line = line; given = given; refused = cause }
+  by_line old new read line (faults.TooManyLines n) given cause = record { line = line; given = given; refused = cause }
 
   pub line_stops : (old new : ComingScript) (first last : S) (line text : Bytes) (f : DocFault) → old.lines.over ≡ false
       → ComesLine seen old.lines new.lines first last line → text ≡ text_of line
@@ -89,14 +91,14 @@ module _ {S : Type 0} (seen : S → SourceSeen) where
       let caused = subst (λ (t : Bytes). IsCause (line_told accepted old.reader.number old.reader.client old.reader.said t) f) cut cause in record {
         read = one.read;
         takes = one.takes;
-        by = by_line old new one.read f (λ more may.
-            subst (λ (ls : List Bytes). IsCause (told_next old ls) f) (sym (one.lines more may)) (first_refused old (text_of line) (lines_left new.lines more) f caused));
+        by = by_line old new one.read (text_of line) f one.lines (λ next. first_refused old (text_of line) next f caused);
+        at_end = one.at_end;
       }
 
   -- there was no memory for a line's command
   pub memory_stops : (old new : ComingScript) (first last : S) (line : Bytes) (want : NoMemory) → ComesLine seen old.lines new.lines first last line
       → Stops seen old new first last (stops.NoMemory want)
-  memory_stops old new first last line want comes = record { read = comes.read; takes = takes_line seen old.lines new.lines first last line comes; by = tt }
+  memory_stops old new first last line want comes = record { read = comes.read; takes = takes_line seen old.lines new.lines first last line comes; by = tt; at_end = line_ends seen old.lines new.lines first last line comes }
 
   by_reading : (old new : ComingScript) (read : Bytes) (f : ReadFault) → (f ≡ reads.TooLong → old.lines.room < length (first_line (old.lines.held ++ read)))
       → (f ≡ reads.SourceFault → IsBare (old.lines.held ++ read))
@@ -110,10 +112,11 @@ module _ {S : Type 0} (seen : S → SourceSeen) where
   reading_stops old new first last f h long bare =
       let kept : new.lines.room ≡ old.lines.room = ap (λ (c : Coming). c.room) h.same in
       let held : new.lines.held ≡ old.lines.held ++ h.read = ap (λ (c : Coming). c.held) h.same in
-      let size : length new.lines.held ≡ length old.lines.held + length h.read = ap (λ (x : Bytes). length x) held ∙ length-append old.lines.held h.read in record {
+      record {
         read = h.read;
-        takes = record { consumed = h.consumed; room = omega (arith, kept, size) };
+        takes = record { consumed = h.consumed; out = []; all = sym held; room = omega (arith, kept) };
         by = by_reading old new h.read f (λ e. omega (arith, long e, kept, ap (λ (x : Bytes). length (first_line x)) held)) (λ e. subst IsBare held (bare e));
+        at_end = λ running over. absurd (cc (running, ap (λ (c : Coming). c.over) h.same, over));
       }
 
   -- ---- a document
@@ -201,7 +204,7 @@ module _ {S : Type 0} (seen : S → SourceSeen) where
       by_over false e = refl
       by_over true e = absurd (cc (running, ap (λ (c : Coming). c.over) (s.come.ended e).0, e))
 
-  pub whole : (policy : Bytes) (a b : ComingScript) (first mid last : S) (told : List ScriptLine)
+  whole : (policy : Bytes) (a b : ComingScript) (first mid last : S) (told : List ScriptLine)
       → (o : HasOpened seen policy a.lines a.reader.number first mid) → a.reader.client ≡ None → a.reader.said ≡ 0
       → (s : Says seen a b mid last told) → b.lines.over ≡ true → document_read accepted (o.read ++ s.come.read) ≡ Ok told
   whole policy a b first mid last told o client said s over = by_over a.lines.over refl
@@ -215,10 +218,109 @@ module _ {S : Type 0} (seen : S → SourceSeen) where
           ∙ (document_is policy a b first mid last told [] o client said e s (λ _. refl) ∙ last_told)
       by_over true e = nothing_read policy a b first mid last told o client said s e
 
-  pub refuses : (policy : Bytes) (a b c : ComingScript) (first mid at last : S) (told : List ScriptLine) (f : DocFault) (more : Bytes)
+  all_read : (input left : Option Bytes) (read : Bytes) → Consumes input left read → IsAtEnd left → IfSome input (λ known. known ≡ read)
+  all_read None left read c e = tt
+  all_read (Some x) None read c e = absurd c
+  all_read (Some x) (Some y) read c e = c ∙ (ap (λ (l : Bytes). read ++ l) e ∙ append-nil read)
+
+  pub to_end : (policy : Bytes) (a b : ComingScript) (first mid last : S) (told : List ScriptLine)
       → (o : HasOpened seen policy a.lines a.reader.number first mid) → a.reader.client ≡ None → a.reader.said ≡ 0
-      → (s : Says seen a b mid at told) → b.lines.over ≡ false → (r : Stops seen b c at last (Refused f)) → MayCome c.lines more
-      → IsRefusal (document_read accepted (o.read ++ (s.come.read ++ (r.read ++ more)))) f
-  refuses policy a b c first mid at last told f more o client said s running r may =
-      let same = document_is policy a b first mid at told (r.read ++ more) o client said (runs_before a b mid at told s running) s (λ over. absurd (cc (running, over))) in
-      subst (λ (d : Result (List ScriptLine) DocumentRefusal). IsRefusal d f) (sym same) (told_refusal told (told_left b (r.read ++ more)) f (r.by more may))
+      → (s : Says seen a b mid last told) → b.lines.over ≡ true → IsFedWholeBy accepted (seen first).left (o.read ++ s.come.read) told
+  to_end policy a b first mid last told o client said s over = by_over a.lines.over refl
+    where
+      opened : length o.read ≡ length o.front + length a.lines.held
+      opened = ap (λ (x : Bytes). length x) o.all ∙ length-append o.front a.lines.held
+
+      given : length a.lines.held + length s.come.read ≡ length s.come.takes.out + length b.lines.held
+      given = sym (length-append a.lines.held s.come.read) ∙ (ap (λ (x : Bytes). length x) s.come.takes.all ∙ length-append s.come.takes.out b.lines.held)
+
+      by_over : (running : Bool) → a.lines.over ≡ running → IsFedWholeBy accepted (seen first).left (o.read ++ s.come.read) told
+      by_over false e =
+          let ended = s.come.at_end e over in
+          record {
+            all = all_read (seen first).left (seen last).left (o.read ++ s.come.read)
+                (Consumes-trans (seen first).left (seen mid).left (seen last).left o.read s.come.read o.consumed s.come.takes.consumed) ended.1;
+            short = omega (arith, opened, given, o.room, s.come.takes.room, ap (λ (x : Bytes). length x) ended.0, length-append o.read s.come.read);
+            says = whole policy a b first mid last told o client said s over;
+          }
+      by_over true e =
+          let ended = o.at_end e in
+          let nothing = (s.come.ended e).1 in
+          record {
+            all = rw nothing (rw (append-nil o.read) (all_read (seen first).left (seen mid).left o.read o.consumed ended.1));
+            short = rw nothing (omega (arith, opened, o.room, ap (λ (x : Bytes). length x) ended.0, ap (λ (x : Bytes). length x) (append-nil o.read)));
+            says = whole policy a b first mid last told o client said s over;
+          }
+
+  module _ (policy : Bytes) (a b c : ComingScript) (first mid at last : S) (told : List ScriptLine) (o : HasOpened seen policy a.lines a.reader.number first mid)
+      (client : a.reader.client ≡ None) (count : a.reader.said ≡ 0) (s : Says seen a b mid at told) (running : b.lines.over ≡ false) where
+    may_all : (more : Bytes) → MayCome b.lines more
+    may_all more over = absurd (cc (running, over))
+
+    script_at : (more : Bytes) → script_lines (lines_of (o.read ++ (s.come.read ++ more))) ≡ s.given ++ lines_left b.lines more
+    script_at more = o.opens.script (s.come.read ++ more) (may_open a b mid at told s more (may_all more)) ∙ s.come.lines more (may_all more)
+
+    says_at : (more : Bytes) → script_told accepted (script_number (lines_of (o.read ++ (s.come.read ++ more)))) [] s.given ≡ Ok told
+    says_at more = all_said policy a b first mid at told more o client count s (may_all more) a.lines.over refl
+
+    -- the lines that were given out, and those that come next
+    next_told : (more : Bytes) (next : List Bytes) (f : DocFault) → IsRefusal (told_next b next) f
+        → IsRefusal (script_told accepted (script_number (lines_of (o.read ++ (s.come.read ++ more)))) [] (s.given ++ next)) f
+    next_told more next f refused =
+        let counted : script_number (lines_of (o.read ++ (s.come.read ++ more))) ≡ a.reader.number = o.opens.numbered (s.come.read ++ more) (runs_before a b mid at told s running) in
+        let said : script_told accepted a.reader.number [] (s.given ++ next) ≡ after_told told (told_next b next) =
+        sym (told_below [] (s.given ++ next) a.reader.number) ∙ rw (client, count) at (s.says next) in
+        rw counted (subst (λ (d : Result (List ScriptLine) DocumentRefusal). IsRefusal d f) (sym said) (told_refusal told (told_next b next) f refused))
+
+    pub to_refusal : (f : DocFault) (more : Bytes) → (r : Stops seen b c at last (Refused f)) → MayCome c.lines more
+        → IsFedToRefusalBy accepted (o.read ++ (s.come.read ++ (r.read ++ more))) f told
+    to_refusal f more r may =
+        let left : lines_left b.lines (r.read ++ more) ≡ r.by.line ∷ lines_left c.lines more = r.by.given more may in
+        let same = document_is policy a b first mid at told (r.read ++ more) o client count (runs_before a b mid at told s running) s (may_all (r.read ++ more)) in
+        let next : IsRefusal (told_left b (r.read ++ more)) f =
+        subst (λ (ls : List Bytes). IsRefusal (told_next b ls) f) (sym left) (r.by.refused (lines_left c.lines more)) in
+        record {
+          given = s.given;
+          line = r.by.line;
+          rest = lines_left c.lines more;
+          script_is = script_at (r.read ++ more) ∙ ap (λ (ls : List Bytes). s.given ++ ls) left;
+          says = says_at (r.read ++ more);
+          first = next_told (r.read ++ more) (r.by.line ∷ []) f (r.by.refused []);
+          refused = subst (λ (d : Result (List ScriptLine) DocumentRefusal). IsRefusal d f) (sym same) (told_refusal told (told_left b (r.read ++ more)) f next);
+        }
+
+    -- what was read, up to the lines that were not given out
+    parts_of : (more : Bytes) → o.read ++ (s.come.read ++ more) ≡ (o.front ++ s.come.takes.out) ++ (b.lines.held ++ more)
+    parts_of more =
+        ap (λ (x : Bytes). x ++ (s.come.read ++ more)) o.all
+        ∙ (append_assoc o.front a.lines.held (s.come.read ++ more)
+        ∙ (ap (λ (x : Bytes). o.front ++ x) (sym (append_assoc a.lines.held s.come.read more)
+        ∙ (ap (λ (x : Bytes). x ++ more) s.come.takes.all ∙ append_assoc s.come.takes.out b.lines.held more))
+        ∙ sym (append_assoc o.front s.come.takes.out (b.lines.held ++ more))))
+
+    left_is : (more : Bytes) → lines_left b.lines more ≡ lines_of (b.lines.held ++ more)
+    left_is more = rw running refl
+
+    pub to_limit : (r : Stops seen b c at last stops.TooLong) → IsFedToLimitBy accepted (o.read ++ (s.come.read ++ r.read)) told
+    to_limit r =
+        let out : length (o.front ++ s.come.takes.out) ≡ length o.front + length s.come.takes.out = length-append o.front s.come.takes.out in
+        record {
+          front = o.front ++ s.come.takes.out;
+          rest = b.lines.held ++ r.read;
+          given = s.given;
+          read_is = parts_of r.read;
+          script_is = script_at r.read ∙ ap (λ (ls : List Bytes). s.given ++ ls) (left_is r.read);
+          says = says_at r.read;
+          within = omega (arith, out, o.room, s.come.takes.room);
+          long = omega (arith, out, o.room, s.come.takes.room, r.by);
+        }
+
+    pub to_fault : (r : Stops seen b c at last stops.SourceFault) → IsFedToFaultBy accepted (o.read ++ (s.come.read ++ r.read)) told
+    to_fault r =
+        record {
+          given = s.given;
+          begun = b.lines.held ++ r.read;
+          bare = r.by;
+          script_is = script_at r.read ∙ ap (λ (ls : List Bytes). s.given ++ ls) (left_is r.read ∙ only_line (b.lines.held ++ r.read) r.by);
+          says = says_at r.read;
+        }

@@ -49,21 +49,28 @@ most_lines c = if c.over then 0 else c.room + 1
 abbrev pub lines_left : Coming → Bytes → List Bytes
 lines_left c more = if c.over then [] else lines_of (c.held ++ more)
 
--- what was read from a source and is given out or held
+-- These bytes were read from a source. Of what was held and read some are given out, and the rest is held.
 pub record Takes {S : Type 0} (seen : S → SourceSeen) (old new : Coming) (first last : S) (read : Bytes) : Type 0 where
   pub consumed : Consumes (seen first).left (seen last).left read
-  pub room : new.room + (length old.held + length read) ≡ old.room + length new.held
+  pub out : Bytes
+  pub all : old.held ++ read ≡ out ++ new.held
+  pub room : new.room + length out ≡ old.room
 
 -- these lines were given out, each without its newline, whatever comes behind what was read
 abbrev pub Gives : Coming → Coming → Bytes → List Bytes → Type 0
 Gives old new read given = (more : Bytes) → MayCome new more → lines_left old (read ++ more) ≡ given ++ lines_left new more
 
--- these lines were given out of what was held and read; behind the last line nothing is read
+-- nothing is held, and the source is at its end
+abbrev pub IsEnded : {S : Type 0} → (S → SourceSeen) → Coming → S → Type 0
+IsEnded seen new last = (new.held ≡ []) × IsAtEnd (seen last).left
+
+-- These lines were given out of what was held and read. Behind the last line nothing is read, and that is the input's last.
 pub record ComeLines {S : Type 0} (seen : S → SourceSeen) (old new : Coming) (first last : S) (given : List Bytes) : Type 0 where
   pub read : Bytes
   pub takes : Takes seen old new first last read
   pub lines : Gives old new read given
   pub ended : old.over ≡ true → (new ≡ old) × (read ≡ [])
+  pub at_end : old.over ≡ false → new.over ≡ true → IsEnded seen new last
 
 -- ---- a document's policy part
 
@@ -79,11 +86,14 @@ pub record Opens (policy : Bytes) (left : Coming) (number : ℕ) (read : Bytes) 
   pub script : (more : Bytes) → MayCome left more → script_lines (lines_of (read ++ more)) ≡ lines_left left more
   pub numbered : (more : Bytes) → left.over ≡ false → script_number (lines_of (read ++ more)) ≡ number
 
--- the policy part was read from a source, and what is held stands behind it
+-- The policy part was read from a source, with the divider's line. What is held stands behind it.
 pub record HasOpened {S : Type 0} (seen : S → SourceSeen) (policy : Bytes) (left : Coming) (number : ℕ) (first last : S) : Type 0 where
   pub read : Bytes
   pub consumed : Consumes (seen first).left (seen last).left read
-  pub room : left.room + length read ≡ 4194304 + length left.held
+  pub front : Bytes
+  pub all : read ≡ front ++ left.held
+  pub room : left.room + length front ≡ 4194304
+  pub at_end : left.over ≡ true → IsEnded seen left last
   pub opens : Opens policy left number read
 
 -- No line that ends within the first 4,194,304 bytes is the divider, and there are more: the next line ends behind them.

@@ -6,9 +6,9 @@ ghost use Rattle.ucon_model.specs.Plain.{Bytes};
 ghost use Rattle.ucon_model.specs.Generated.{generated, generated_entries, generated_policy, text_of};
 ghost use Rattle.ucon_script.specs.declared.coming_script.ComingScript.{ComingScript};
 ghost use Rattle.ucon_script.specs.declared.doc_fault.DocFault.{DocFault};
-ghost use Rattle.ucon_script.specs.declared.script_stop.ScriptStop.TheVariants.{Refused};
+ghost use Rattle.ucon_script.specs.declared.script_stop.ScriptStop.TheVariants.{Refused, SourceFault, TooLong};
 ghost use Rattle.ucon_script.specs.Coming.{HasOpened, MayCome};
-ghost use Rattle.ucon_script.specs.ComingScript.{IsFedBy, IsRefusal, Says, Stops};
+ghost use Rattle.ucon_script.specs.ComingScript.{IsFedBy, IsFedToFaultBy, IsFedToLimitBy, IsFedToRefusalBy, IsFedWholeBy, Says, Stops};
 ghost use Rattle.ucon_script.specs.Lines.{told_from};
 ghost use Rattle.ucon_syntax.specs.Policies.{accepted};
 
@@ -40,16 +40,25 @@ pub fn scripts_are_judged_on<S: Source>()
 {}
 
 /// What a document's script says, line by line as it comes, is what the document says that was read, whatever comes behind it. So it is if the last
-/// line was judged, and if a line is refused.
+/// line was judged. If something stopped the script, what was said are the lines before that, and all of them.
 pub fn coming_documents_are_read_line_by_line<S: Source>()
     ensures fed { (policy : Bytes) (a b : ComingScript) (first mid last : S) (told : List ScriptLine) (more : Bytes)
         → (o : HasOpened S.seen policy a.lines a.reader.number first mid) → a.reader.client ≡ None → a.reader.said ≡ 0
         → (s : Says S.seen a b mid last told) → MayCome b.lines more → IsFedBy accepted (o.read ++ (s.come.read ++ more)) told }
     ensures whole { (policy : Bytes) (a b : ComingScript) (first mid last : S) (told : List ScriptLine)
         → (o : HasOpened S.seen policy a.lines a.reader.number first mid) → a.reader.client ≡ None → a.reader.said ≡ 0
-        → (s : Says S.seen a b mid last told) → b.lines.over ≡ true → document_read accepted (o.read ++ s.come.read) ≡ Ok told }
+        → (s : Says S.seen a b mid last told) → b.lines.over ≡ true
+        → IsFedWholeBy accepted (S.seen first).left (o.read ++ s.come.read) told }
     ensures refused { (policy : Bytes) (a b c : ComingScript) (first mid at last : S) (told : List ScriptLine) (f : DocFault) (more : Bytes)
         → (o : HasOpened S.seen policy a.lines a.reader.number first mid) → a.reader.client ≡ None → a.reader.said ≡ 0
         → (s : Says S.seen a b mid at told) → b.lines.over ≡ false → (r : Stops S.seen b c at last (Refused f)) → MayCome c.lines more
-        → IsRefusal (document_read accepted (o.read ++ (s.come.read ++ (r.read ++ more)))) f }
+        → IsFedToRefusalBy accepted (o.read ++ (s.come.read ++ (r.read ++ more))) f told }
+    ensures long { (policy : Bytes) (a b c : ComingScript) (first mid at last : S) (told : List ScriptLine)
+        → (o : HasOpened S.seen policy a.lines a.reader.number first mid) → a.reader.client ≡ None → a.reader.said ≡ 0
+        → (s : Says S.seen a b mid at told) → b.lines.over ≡ false → (r : Stops S.seen b c at last TooLong)
+        → IsFedToLimitBy accepted (o.read ++ (s.come.read ++ r.read)) told }
+    ensures failed { (policy : Bytes) (a b c : ComingScript) (first mid at last : S) (told : List ScriptLine)
+        → (o : HasOpened S.seen policy a.lines a.reader.number first mid) → a.reader.client ≡ None → a.reader.said ≡ 0
+        → (s : Says S.seen a b mid at told) → b.lines.over ≡ false → (r : Stops S.seen b c at last SourceFault)
+        → IsFedToFaultBy accepted (o.read ++ (s.come.read ++ r.read)) told }
 {}
