@@ -27,13 +27,8 @@ goes_out (Err faults.TooLong) before now ready replies = Appends before now (rea
 goes_out (Err (faults.NoMemory e)) before now ready replies = Appends before now (ready ++ replies) ⊎ ((now ≡ before) × (replies ≡ []))
 
 -- These bytes were told by this moment: they are a front of what the sink held, the first line, and the replies up to one. From that moment on the
-<<<<<<< ours
 -- file is found as a history that begins with all that was done when that one was answered. The file has the policy and all checkpoints that there
--- were. That holds now, and whenever a crash came in between.
-=======
--- file is found as a history that begins with all that was done when that one was answered, with the policy and all checkpoints that there were. That
--- holds now, and whenever a crash came in between. Where lines were answered together it is the last of them.
->>>>>>> theirs
+-- were. That holds now, and whenever a crash came in between. Where lines were answered together it is the last of them.
 pub record IsToldOnceKeptBy (reads : PolicyReading) (text : Bytes) (disk : DiskSeen) (held : Bytes) (opening : Standing) (exchanges : List (Exchange Standing))
     (b : Bytes) (t : ℕ) : Type 0 where
   pub by_then : List (Exchange Standing)
