@@ -57,7 +57,8 @@ pub fn audit<E: Engine, D: Disk>(
     ensures images { IfOk result (λ r. LeavesFrom (D.seen disk) (D.seen r.1) Untouched) }
     ensures unfailed { IfOk result (λ r. (D.seen r.1).faults ≡ (D.seen disk).faults) }
     ensures refused { IfErr result (λ e. IsRefused e.1 policy.now (D.seen disk).contents (D.seen disk).faults (D.seen e.0).faults) }
-    ensures bytes_err { IfErr result (λ e. e.1 ≢ StoreFault.DiskFault → IfSome (D.seen disk).contents (λ file. (D.seen e.0).contents ≡ Some (opened file))) }
+    ensures bytes_err { IfErr result (λ e. e.1 ≢ StoreFault.DiskFault
+        → IfSome (D.seen disk).contents (λ file. (D.seen e.0).contents ≡ Some (opened file))) }
     ensures images_err { IfErr result (λ e. LeavesFrom (D.seen disk) (D.seen e.0) Untouched) }
 {
     let mut journal = match Journal::open(alloc, disk) {
@@ -114,13 +115,15 @@ pub fn audit_text<E: Engine, D: Disk, R: Threads + Sync>(
     disk: D,
 ) -> Result<(Vec<u8>, D), (D, StoreFault)>
     requires { IsSome (accepted policy.now) }
-    ensures printed { IfOk result (λ r. IfSome (D.seen disk).contents (IsPrinted policy.now (λ P H file. r.0.items ≡ audit_spelling kept (opened file) P H))) }
+    ensures printed { IfOk result (λ r. IfSome (D.seen disk).contents
+        (IsPrinted policy.now (λ P H file. r.0.items ≡ audit_spelling kept (opened file) P H))) }
     ensures bytes { IfOk result (λ r. (D.seen r.1).contents ≡ option_map opened (D.seen disk).contents) }
     ensures at_rest { IfOk result (λ r. Only (D.seen r.1).contents (D.seen r.1).images) }
     ensures images { IfOk result (λ r. LeavesFrom (D.seen disk) (D.seen r.1) Untouched) }
     ensures unfailed { IfOk result (λ r. (D.seen r.1).faults ≡ (D.seen disk).faults) }
     ensures refused { IfErr result (λ e. IsRefused e.1 policy.now (D.seen disk).contents (D.seen disk).faults (D.seen e.0).faults) }
-    ensures bytes_err { IfErr result (λ e. e.1 ≢ StoreFault.DiskFault → IfSome (D.seen disk).contents (λ file. (D.seen e.0).contents ≡ Some (opened file))) }
+    ensures bytes_err { IfErr result (λ e. e.1 ≢ StoreFault.DiskFault
+        → IfSome (D.seen disk).contents (λ file. (D.seen e.0).contents ≡ Some (opened file))) }
     ensures images_err { IfErr result (λ e. LeavesFrom (D.seen disk) (D.seen e.0) Untouched) }
 {
     let (audited, disk) = match audit::<E, D>(alloc, policy, kept, disk) {
@@ -146,7 +149,8 @@ pub fn report_text<E: Engine, D: Disk>(
     ensures images { IfOk result (λ r. LeavesFrom (D.seen disk) (D.seen r.1) Untouched) }
     ensures unfailed { IfOk result (λ r. (D.seen r.1).faults ≡ (D.seen disk).faults) }
     ensures refused { IfErr result (λ e. IsRefused e.1 policy.now (D.seen disk).contents (D.seen disk).faults (D.seen e.0).faults) }
-    ensures bytes_err { IfErr result (λ e. e.1 ≢ StoreFault.DiskFault → IfSome (D.seen disk).contents (λ file. (D.seen e.0).contents ≡ Some (opened file))) }
+    ensures bytes_err { IfErr result (λ e. e.1 ≢ StoreFault.DiskFault
+        → IfSome (D.seen disk).contents (λ file. (D.seen e.0).contents ≡ Some (opened file))) }
     ensures images_err { IfErr result (λ e. LeavesFrom (D.seen disk) (D.seen e.0) Untouched) }
 {
     let (audited, disk) = match audit::<E, D>(alloc, policy, None, disk) {

@@ -52,7 +52,8 @@ pub(crate) fn load<E: Engine, D: Disk>(
     ensures only { OnOk result (Only (D.seen (disk_of journal.new)).contents (D.seen (disk_of journal.new)).images) }
     ensures reason { IfErr result (λ fault. HasReason fault policy.now (D.seen (disk_of journal.old)).contents
         (D.seen (disk_of journal.old)).faults (D.seen (disk_of journal.new)).faults) }
-    ensures bytes_err { IfErr result (λ fault. fault ≢ StoreFault.DiskFault → (D.seen (disk_of journal.new)).contents ≡ (D.seen (disk_of journal.old)).contents) }
+    ensures bytes_err { IfErr result (λ fault. fault ≢ StoreFault.DiskFault
+        → (D.seen (disk_of journal.new)).contents ≡ (D.seen (disk_of journal.old)).contents) }
     ensures images { LeavesAfter (D.seen (disk_of journal.old)) (D.seen (disk_of journal.new)) (Opens policy.now) }
     ensures tells { OnOk result (is_some (D.seen (disk_of journal.new)).contents ≡ is_some (D.seen (disk_of journal.old)).contents) }
     ensures unfailed { OnOk result ((D.seen (disk_of journal.new)).faults ≡ (D.seen (disk_of journal.old)).faults) }
@@ -93,7 +94,8 @@ fn go_on<E: Engine, D: Disk>(
     ensures only { OnOk result (Only (D.seen (disk_of journal.new)).contents (D.seen (disk_of journal.new)).images) }
     ensures reason { IfErr result (λ fault. HasReason fault policy.now (D.seen (disk_of journal.old)).contents
         (D.seen (disk_of journal.old)).faults (D.seen (disk_of journal.new)).faults) }
-    ensures bytes_err { IfErr result (λ fault. fault ≢ StoreFault.DiskFault → (D.seen (disk_of journal.new)).contents ≡ (D.seen (disk_of journal.old)).contents) }
+    ensures bytes_err { IfErr result (λ fault. fault ≢ StoreFault.DiskFault
+        → (D.seen (disk_of journal.new)).contents ≡ (D.seen (disk_of journal.old)).contents) }
     ensures images { LeavesAfter (D.seen (disk_of journal.old)) (D.seen (disk_of journal.new)) (Opens policy.now) }
     ensures tells { OnOk result (is_some (D.seen (disk_of journal.new)).contents ≡ is_some (D.seen (disk_of journal.old)).contents) }
     ensures unfailed { OnOk result ((D.seen (disk_of journal.new)).faults ≡ (D.seen (disk_of journal.old)).faults) }
@@ -131,7 +133,8 @@ fn make<E: Engine, D: Disk>(
     ensures only { OnOk result (Only (D.seen (disk_of journal.new)).contents (D.seen (disk_of journal.new)).images) }
     ensures reason { IfErr result (λ fault. HasReason fault policy.now (D.seen (disk_of journal.old)).contents
         (D.seen (disk_of journal.old)).faults (D.seen (disk_of journal.new)).faults) }
-    ensures bytes_err { IfErr result (λ fault. fault ≢ StoreFault.DiskFault → (D.seen (disk_of journal.new)).contents ≡ (D.seen (disk_of journal.old)).contents) }
+    ensures bytes_err { IfErr result (λ fault. fault ≢ StoreFault.DiskFault
+        → (D.seen (disk_of journal.new)).contents ≡ (D.seen (disk_of journal.old)).contents) }
     ensures images { LeavesAfter (D.seen (disk_of journal.old)) (D.seen (disk_of journal.new)) (Opens policy.now) }
     ensures tells { OnOk result (is_some (D.seen (disk_of journal.new)).contents ≡ is_some (D.seen (disk_of journal.old)).contents) }
     ensures unfailed { OnOk result ((D.seen (disk_of journal.new)).faults ≡ (D.seen (disk_of journal.old)).faults) }

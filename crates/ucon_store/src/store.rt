@@ -111,7 +111,8 @@ impl<E: Engine, D: Disk> Store<E, D> {
             → (D.seen disk).contents ≡ Some file → IsFoundAs policy.now file H → GoesOnFrom D.seen P s H) }
         ensures first { IfOk result (λ s. IsBeforeAll s.point s.before → (P : PlainPolicy) → accepted policy.now ≡ Some P
             → IsFounded D.seen P s []) }
-        ensures found { IfOk result (λ s. IsBeforeAll s.point s.before → IfSome (D.seen disk).contents (λ file. IsFoundAs policy.now file s.entries)) }
+        ensures found { IfOk result (λ s. IsBeforeAll s.point s.before
+            → IfSome (D.seen disk).contents (λ file. IsFoundAs policy.now file s.entries)) }
         ensures images { IfOk result (λ s. LeavesAfter (D.seen disk) (D.seen s.disk) (Opens policy.now)) }
         ensures since { IfOk result (λ s. LeavesFrom (D.seen disk) (D.seen s.disk) (Opens policy.now)) }
         ensures at_rest { IfOk result (λ s. Only (D.seen s.disk).contents (D.seen s.disk).images) }
@@ -122,7 +123,8 @@ impl<E: Engine, D: Disk> Store<E, D> {
         ensures tells { IfOk result (λ s. is_some (D.seen s.disk).contents ≡ is_some (D.seen disk).contents) }
         ensures unfailed { IfOk result (λ s. (D.seen s.disk).faults ≡ (D.seen disk).faults) }
         ensures reason { IfErr result (λ e. HasReason e.1 policy.now (D.seen disk).contents (D.seen disk).faults (D.seen e.0).faults) }
-        ensures bytes_err { IfErr result (λ e. e.1 ≢ StoreFault.DiskFault → IfSome (D.seen disk).contents (λ file. (D.seen e.0).contents ≡ Some (opened file))) }
+        ensures bytes_err { IfErr result (λ e. e.1 ≢ StoreFault.DiskFault
+            → IfSome (D.seen disk).contents (λ file. (D.seen e.0).contents ≡ Some (opened file))) }
         ensures images_err { IfErr result (λ e. LeavesAfter (D.seen disk) (D.seen e.0) (Opens policy.now)) }
         ensures since_err { IfErr result (λ e. LeavesFrom (D.seen disk) (D.seen e.0) (Opens policy.now)) }
     {

@@ -36,7 +36,8 @@ pub trait Keeper {
         requires whole { HasNewline came.now }
         requires fits { newline came.now < limit }
         ensures reply { IfOk result (λ n. AreReplied limit (answers self.old self.new) came.now n text.old.items text.new.items) }
-        ensures failed { OnErr result ((self.old ≡ self.new) ⊎ AreAnsweredUntold limit answers (λ lines. IsFrontOf lines came.now) self.old self.new) }
+        ensures failed { OnErr result ((self.old ≡ self.new)
+            ⊎ AreAnsweredUntold limit answers (λ lines. IsFrontOf lines came.now) self.old self.new) }
         ensures stays { stays self.old self.new };
 
     /// Adds the reply to a line that is too long, which nobody has read.

@@ -64,7 +64,8 @@ fn round<K: Keeper, S: Source, V: Voice<K>>(
     text: &mut Vec<u8>,
     out: &mut V,
 ) -> Result<bool, TalkFault>
-    ensures talked { HasTalked K.seen K.stays K.answers K.refuses lines.old.limit (by_round result) keeper.old keeper.new (V.seen out.old) (V.seen out.new)
+    ensures talked { HasTalked K.seen K.stays K.answers K.refuses lines.old.limit (by_round result)
+        keeper.old keeper.new (V.seen out.old) (V.seen out.new)
         (HearsRound result lines.old.held lines.new.held (S.seen input.old).left (S.seen input.new).left) }
     ensures stays { K.stays keeper.old keeper.new }
     ensures limit { lines.new.limit ≡ lines.old.limit }
