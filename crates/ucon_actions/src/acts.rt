@@ -15,12 +15,15 @@ use ucon_engine::{acts, has_entity, moment, names_act};
 use ucon_model::{Head, Refusal};
 use ucon_state::{State, each_action_is_followed, tables_keep_what_is_followed};
 
+/// The most acts whose last moment is known.
+const MAX_ACTS: u32 = 1_048_576;
+
 /// An act is done now.
 fn perform(state: &mut State, subject: &Name, action: &Name, object: &Name) -> Result<(), NoMemory>
     requires subject { IsSome (entity_number (shown state.old).tables sides.Subject subject.now) }
     requires object { IsSome (entity_number (shown state.old).tables sides.Object object.now) }
     requires named { names_act (shown state.old).policy.rights action.now ≡ true }
-    requires room { IsSome (moment_in (shown state.old).tables subject.now action.now object.now) ⊎ (length (shown state.old).tables.acts < 1048576) }
+    requires room { IsSome (moment_in (shown state.old).tables subject.now action.now object.now) ⊎ (length (shown state.old).tables.acts < MAX_ACTS) }
     ensures leads { OnOk result (Leads (shown state.old) (shown state.new) (λ P T. act subject.now action.now object.now ∷ T)) }
     ensures base { KeepsBase (shown state.old) (shown state.new) }
 {
@@ -48,7 +51,7 @@ pub fn do_act(
     )?;
     require(has_entity(state, Side::Object, object), Refusal::NoObject)?;
     require(names_act(state, action), Refusal::NoAct)?;
-    let room = acts(state) < 1_048_576 || moment(state, subject, action, object).is_some();
+    let room = acts(state) < MAX_ACTS || moment(state, subject, action, object).is_some();
     require(room, Refusal::FullActs)?;
     perform(state, subject, action, object)?;
     Ok(Outcome::Made(Head::Ok))

@@ -31,6 +31,12 @@ use ucon_model::{
 };
 use ucon_state::{State, each_action_is_followed, tables_keep_what_is_followed};
 
+/// The most sessions there are in all.
+const MAX_SESSIONS: u32 = 1_048_576;
+
+/// The most uses that go on at once.
+const MAX_ACCESSING: u32 = 65_536;
+
 /// The session, if it is there and the caller's own.
 fn own_session(state: &State, caller: Caller, n: u32) -> Result<SessionRow, Refusal>
     ensures there { IfOk result (λ row. session_in (shown state.now).tables n ≡ Some row) }
@@ -135,7 +141,7 @@ fn request(
     requires right { IsSome (right_named (shown state.old).policy.rights (right_name state.old right)) }
     requires subject { IsSome (entity_number (shown state.old).tables sides.Subject (subject_name state.old subject)) }
     requires object { IsSome (entity_number (shown state.old).tables sides.Object (object_name state.old object)) }
-    requires few { length (shown state.old).tables.sessions < 1048576 }
+    requires few { length (shown state.old).tables.sessions < MAX_SESSIONS }
     requires room { accessing_among (shown state.old).tables.sessions < 65536 }
     ensures made { IfOk result (λ head. AfterEach (shown state.old) (λ P T. Makes head (shown state.new) P T
         (requested P T caller (subject_name state.old subject) (right_name state.old right) (object_name state.old object)))) }
@@ -165,8 +171,8 @@ pub fn try_right(
     let right = find_right(state, right).ok_or(Refusal::NoRight)?;
     let subject = find_entity(state, Side::Subject, subject).ok_or(Refusal::NoSubject)?;
     let object = find_entity(state, Side::Object, object).ok_or(Refusal::NoObject)?;
-    require(sessions(state) < 1_048_576, Refusal::FullSessions)?;
-    require(accessing(state) < 65536, Refusal::FullAccessing)?;
+    require(sessions(state) < MAX_SESSIONS, Refusal::FullSessions)?;
+    require(accessing(state) < MAX_ACCESSING, Refusal::FullAccessing)?;
     let head = request(alloc, state, caller, right, subject, object)?;
     Ok(Outcome::Made(head))
 }
@@ -205,7 +211,7 @@ pub fn try_again(
     require(!lacks_right(state, n), Refusal::NoRight)?;
     let row = own_session(state, caller, n)?;
     require(is_requesting(row.state), Refusal::NotRequesting)?;
-    require(accessing(state) < 65536, Refusal::FullAccessing)?;
+    require(accessing(state) < MAX_ACCESSING, Refusal::FullAccessing)?;
     let head = decide(alloc, state, n)?;
     Ok(Outcome::Made(head))
 }

@@ -24,12 +24,9 @@ use std::alloc::Global;
 use ucon_base::NoMemory;
 use ucon_disk::Disk;
 use ucon_engine::Engine;
-use ucon_journal::{Journal, MAX_PAYLOAD};
+use ucon_journal::{FIRST_GATE, Journal, MAX_PAYLOAD};
 use ucon_model::payloads_are_found_one_by_one;
 use ucon_store::{StoreFault, at_record, has_points};
-
-/// The place of record 0's gate.
-const FIRST_GATE: u64 = 8;
 
 /// What was taken in of a journal: the history of its records, and their head.
 #[derive(Drop)]

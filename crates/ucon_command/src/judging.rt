@@ -18,6 +18,12 @@ use std::alloc::Global;
 use ucon_base::Int;
 use ucon_reply::{next_word, number_in, words_are_read_back};
 
+/// The most bytes of a line that is no amendment.
+pub(crate) const MOST_LINE: usize = 8_192;
+
+/// The most bytes of an amendment's line: its word and a policy's text.
+pub(crate) const MOST_AMENDMENT: usize = 65_542;
+
 /// Where the words of a line's command stand, or the first refusal. A line of too many bytes is refused before any memory is taken,
 /// and of another line than an amendment each refusal is told whatever memory there is.
 #[inline(always)]
@@ -73,7 +79,7 @@ fn plain_cuts(line: &[u8]) -> Option<Cuts>
 #[inline(always)]
 #[tactic(auto, unfolding(ucon_model::specs::CommandLine::command_read))]
 fn try_cuts(line: &[u8], second: Option<usize>) -> Result<Cuts, LineFault>
-    requires short { length line.now ≤ 8192 }
+    requires short { length line.now ≤ MOST_LINE }
     requires second { IsSecond second line.now }
     ensures { GivesCuts result line.now (command_read accepted line.now (codes "try") (words_of line.now)) }
 {
@@ -88,7 +94,7 @@ fn try_cuts(line: &[u8], second: Option<usize>) -> Result<Cuts, LineFault>
 #[inline(always)]
 #[tactic(auto, unfolding(ucon_model::specs::CommandLine::command_read))]
 fn act_cuts(line: &[u8], second: Option<usize>) -> Result<Cuts, LineFault>
-    requires short { length line.now ≤ 8192 }
+    requires short { length line.now ≤ MOST_LINE }
     requires second { IsSecond second line.now }
     ensures { GivesCuts result line.now (command_read accepted line.now (codes "act") (words_of line.now)) }
 {
@@ -130,7 +136,7 @@ fn first_word(line: &[u8], second: Option<usize>) -> &[u8]
 fn is_too_long(line: &[u8]) -> bool
     ensures { result ≡ nat_lt (most_bytes line.now) (length line.now) }
 {
-    line.len() > 8192 && line.len() > most_bytes(line)
+    line.len() > MOST_LINE && line.len() > most_bytes(line)
 }
 
 /// How many bytes a line may have.
@@ -138,9 +144,9 @@ fn most_bytes(line: &[u8]) -> usize
     ensures { result ≡ most_bytes line.now }
 {
     if line.starts_with(b"amend ") {
-        65542
+        MOST_AMENDMENT
     } else {
-        8192
+        MOST_LINE
     }
 }
 
@@ -174,7 +180,7 @@ fn other_cuts(
     first: &[u8],
     second: Option<usize>,
 ) -> Result<Cuts, LineFault>
-    requires short { length line.now ≤ 8192 }
+    requires short { length line.now ≤ MOST_LINE }
     requires second { IsSecond second line.now }
     requires other { IsFalse (bytes_eq first.now (codes "amend")) }
     ensures { GivesCuts result line.now (command_read accepted line.now first.now (words_of line.now)) }

@@ -22,8 +22,8 @@ use std::alloc::Global;
 use ucon_base::NoMemory;
 use ucon_disk::Disk;
 
-/// The place of the first gate.
-const FIRST_GATE: u64 = 8;
+/// The place of the first gate, record 0's, in bytes.
+pub const FIRST_GATE: u64 = 8;
 
 /// A gate and four bytes of length.
 const HEADER: u64 = 5;

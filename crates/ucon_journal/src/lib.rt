@@ -20,5 +20,5 @@ mod phase;
 mod synced;
 
 pub use fault::{DiskFault, OpenFault, TakeFault};
-pub use journal::{Journal, MAX_PAYLOAD, reads_back};
+pub use journal::{FIRST_GATE, Journal, MAX_PAYLOAD, reads_back};
 pub use phase::Phase;

@@ -26,11 +26,8 @@ use std::alloc::Global;
 use ucon_base::NoMemory;
 use ucon_disk::Disk;
 use ucon_engine::Engine;
-use ucon_journal::{Journal, MAX_PAYLOAD};
+use ucon_journal::{FIRST_GATE, Journal, MAX_PAYLOAD};
 use ucon_model::{no_usage_goes_on_failing, revocations_are_few};
-
-/// The place of record 0's gate.
-const FIRST_GATE: u64 = 8;
 
 /// No entries yet, of a journal of which record 0 was taken, and no other record; at the last checkpoint, as a walk has found it.
 pub(crate) fn start<E: Engine, D: Disk>(
