@@ -108,6 +108,20 @@ fn leave_list(readers: &mut Readers, n: u32, work: &mut NumberSet) -> Result<(),
     Ok(())
 }
 
+/// How many revocations there is room for once there is one.
+const FIRST_ROOM: usize = 16;
+
+/// Notes a revocation behind the others. Where one comes, more often come with it.
+fn note(revoked: &mut Rows<Revoked>, one: Revoked) -> Result<(), NoMemory>
+    ensures { OnOk result (revoked.new.items ≡ revoked.old.items ++ one ∷ []) }
+{
+    if revoked.slice().is_empty() {
+        revoked.reserve(FIRST_ROOM)?;
+    }
+    revoked.push(one)?;
+    Ok(())
+}
+
 /// Revokes session n, notes it, and puts into the work who reads where its updates wrote, and the next of its list.
 fn revoke_next(
     alloc: Global,
@@ -149,7 +163,7 @@ fn revoke_next(
     updates_write_their_targets();
     cells_are_of_one_attribute();
     revoke(alloc, state, n, label)?;
-    revoked.push(Revoked { session: n, label })?;
+    note(revoked, Revoked { session: n, label })?;
     leave_list(readers, n, work)?;
     timers.set(n, None)?;
     put_targets(state, readers, n, When::AfterRevoke, work);
