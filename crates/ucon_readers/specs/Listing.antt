@@ -51,7 +51,9 @@ pub record HoldsThose (lists : Members) (index : Dependents) (standing : ℕ →
   pub led : AreLed lists index
   pub nobody_hidden : index.hidden ≡ []
 
--- undoing each change of the lists and of the index gives some that hold these
+-- Undoing each change of the lists and of the index gives some that hold these. An example: sessions 1 and 2 are in one list, whose leader 1 stands at
+-- place 7. A step takes both out, so 1 is hidden in the index, and adds 3 there as the leader of a list of its own. Undoing shows 1 again (`unhiding`),
+-- takes 3 out (`taking_out`), and puts 1 and 2 back into their list (`lists`). Both stand at place 7 as before, and 1 is the first of both (`holds`).
 pub record ChangesGive (s : Listing) (standing : ℕ → List ℕ) (first : ℕ → ℕ) : Type 0 where
   pub before : Members
   pub unhidden : Dependents
