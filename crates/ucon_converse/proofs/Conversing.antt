@@ -52,7 +52,7 @@ begins_behind G xs ys b = (b.0, append_assoc G xs b.0 ∙ ap (λ (l : History). 
 -- ---- what went out
 
 -- the first line went out, and then the replies
-went_out : (r : Result (Unit {0}) TalkFault) (before between now : Option Bytes) (ready replies : Bytes) → Appends before between ready → writes_by r between now replies
+pub went_out : (r : Result (Unit {0}) TalkFault) (before between now : Option Bytes) (ready replies : Bytes) → Appends before between ready → writes_by r between now replies
     → goes_out r before now ready replies
 went_out (Ok done) before between now xs ys p q = Appends-trans before between now xs ys p q
 went_out (Err faults.SinkFault) before between now xs ys p q = (
@@ -88,11 +88,11 @@ module _ {D : Type 0} (seen : D → DiskSeen) (only : (d : D) (c : List ℕ) →
   Rounds' first rounds last = AreRounds 65546 (GivesReplies seen) Refuses first rounds last
 
   -- a round leaves what a store's runs do
-  keeps_one : (before : Answering D) (r : Round (Answering D)) → AreAnswered 65546 (GivesReplies seen) before r ⊎ IsRefused 65546 Refuses before r → Keeps seen before r.after
+  pub keeps_one : (before : Answering D) (r : Round (Answering D)) → AreAnswered 65546 (GivesReplies seen) before r ⊎ IsRefused 65546 Refuses before r → Keeps seen before r.after
   keeps_one before r (inl a) = a.answered.keeps
   keeps_one before r (inr a) = subst (λ (s : Answering D). Keeps seen before s) (sym a.same) (keeps_same seen only before)
 
-  keeps_along : (first last : Answering D) (rounds : List (Round (Answering D))) → Rounds' first rounds last → Keeps seen first last
+  pub keeps_along : (first last : Answering D) (rounds : List (Round (Answering D))) → Rounds' first rounds last → Keeps seen first last
   keeps_along first last [] run = subst (λ (s : Answering D). Keeps seen first s) run (keeps_same seen only first)
   keeps_along first last (r ∷ rounds) run = keeps_again seen only read counts first r.after last (keeps_one first r run.0) (keeps_along r.after last rounds run.1)
 
