@@ -1,5 +1,5 @@
 -- From a keeper that talked to a conversation over its store.
-use Rattle.std.proofs.Common.{◌≡◌, ◌⊎◌, inl, inr, ⊎_elim, ℕ, ◌+◌, ◌≤◌, ◌<◌, List, [], ◌∷◌, ◌++◌, length, take, append_assoc, length-append, refl, sym, ap, subst, ◌∙◌, arith}
+use Rattle.std.proofs.Common.{◌≡◌, ◌⊎◌, inl, inr, ⊎_elim, ℕ, ◌+◌, ◌≤◌, List, [], ◌∷◌, ◌++◌, length, take, append_assoc, length-append, refl, sym, ap, subst, ◌∙◌, arith}
 use Rattle.std.proofs.lemmas.List.{append-nil}
 use Rattle.std.proofs.KnownBytes.{Appends-trans, Consumes-nil}
 use Rattle.std.proofs.Math.Seq.{take-append-add}
@@ -13,7 +13,7 @@ use Rattle.ucon_model.specs.LegalRun.{Answered, IsLegalRun, history_made, in_tex
 use Rattle.ucon_model.specs.Plain.{Bytes, PlainPolicy}
 use Rattle.ucon_model.specs.StoredRun.{LeadsTo, failed_line}
 use Rattle.ucon_store.specs.Kept.{Kept}
-use Rattle.ucon_store.specs.Points.{SameKind, has_points, text_in_force}
+use Rattle.ucon_store.specs.Points.{text_in_force}
 use Rattle.ucon_store.specs.Starts.{IsStart, text_at_start}
 use Rattle.ucon_store.specs.Whole.{IsFront}
 use Rattle.ucon_syntax.specs.Policies.{accepted}
@@ -26,12 +26,12 @@ use Rattle.ucon_tell.specs.declared.talk_fault.TalkFault.TheVariants as faults
 use Rattle.ucon_turn.specs.Lists.{Begins}
 use Rattle.ucon_converse.specs.Answering.{Answering}
 use Rattle.ucon_converse.specs.Conversation.{HasConversedBy, IsMarkOf, IsRunOver, IsStoppedBy, IsToldOnceKeptBy, goes_out}
-use Rattle.ucon_converse.specs.Exchanges.{Exchange, IsAnswered, behind, lines_in, replies_in}
+use Rattle.ucon_converse.specs.Exchanges.{Exchange, lines_in, replies_in}
 use Rattle.ucon_converse.specs.Greeting.{HasGreeted}
 use Rattle.ucon_converse.specs.Holding.{IsFoundPast, IsFoundedAt, standing}
 use Rattle.ucon_converse.specs.Keeping.{GivesReplies, IsDated, Keeps, Refuses, kept_seen, moment_of}
 use Rattle.ucon_converse.specs.KeeperLaws.{based_later, keeps_again, keeps_kept, keeps_same}
-use Rattle.ucon_converse.specs.Replies.{AreGivenBy, GivesReplyBy, IsTooLong, Standing, ready_line}
+use Rattle.ucon_converse.specs.Replies.{AreGivenBy, GivesReplyBy, Standing, ready_line}
 use Rattle.ucon_converse.proofs.Dated.{dated_before, given_as}
 use Rattle.ucon_converse.proofs.Leads.{LeadsOver, exchanges_lead}
 use Rattle.ucon_converse.proofs.Long.{long_lines_ask_nothing}

@@ -1,4 +1,4 @@
-use Rattle.std.proofs.Common.{◌≡◌, length, sym}
+use Rattle.std.proofs.Common.{sym}
 use Rattle.ucon_converse.proofs.Putting.{replied_count}
 use Rattle.ucon_converse.proofs.together.put_counted.Goals as goal
 
