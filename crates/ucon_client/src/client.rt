@@ -19,6 +19,7 @@ use ucon_turn::{Seat, Turn};
 
 /// A client of a store behind a turn. If it has a reader of the store's board, it reads looks there without a turn, and its next turn confirms
 /// them.
+#[derive(Drop)]
 pub struct Client<E: Engine, D: Disk> {
     pub part: Part,
     pub seat: Seat<Boarded<E, D>>,
@@ -110,7 +111,7 @@ impl<E: Engine, D: Disk> Client<E, D> {
     }
 
     /// Answers the next line in the client's turn. It has no reader.
-    fn answer_next<R: Wait>(&mut self, rt: &R, alloc: Global, turn: &Turn<Boarded<E, D>>)
+    pub(crate) fn answer_next<R: Wait>(&mut self, rt: &R, alloc: Global, turn: &Turn<Boarded<E, D>>)
         requires serves { ServesWith turn.now self.old.part self.old.seat self.old.looks }
         requires alone { self.old.looks ≡ None }
         requires more { length self.old.part.answers.items < length self.old.part.lines.items }

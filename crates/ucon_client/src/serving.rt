@@ -81,7 +81,7 @@ fn seat_all<E: Engine, D: Disk>(
 }
 
 /// Takes all seats back, by rising client number, and keeps the answered parts.
-fn join_all<E: Engine, D: Disk>(
+pub(crate) fn join_all<E: Engine, D: Disk>(
     turn: &Turn<Boarded<E, D>>,
     seat: &mut Seat<Boarded<E, D>>,
     clients: Vec<Client<E, D>>,

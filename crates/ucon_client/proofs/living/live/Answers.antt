@@ -1,0 +1,9 @@
+use Rattle.std.proofs.Common.{◌∙◌}
+use Rattle.ucon_client.proofs.AllTold.{lived_so}
+use Rattle.ucon_client.proofs.living.live.Goals as goal
+
+pub returns-clause-lived : goal.returns-clause-lived
+returns-clause-lived g c =
+    lived_so g.S.Source.seen c.args.script.now c.live_over.new.script c.args.source.now c.live_over.new.source c.in-Ok-open.opened.0 c.live_over.new.seat
+    c.live_over.result.0.items c.live_over.result.1 c.live_over.result.2 c.args.store c.close-shared.result (c.in-Ok-open.ensures.turn.0 ∙ c.new.ensures)
+    c.requires c.close-shared.ensures.list c.close-shared.ensures.callers c.into_store-2.ensures.mark c.live_over.ensures.served c.into_store-2.result c.into_store-2.ensures.store
