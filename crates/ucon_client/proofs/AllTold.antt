@@ -50,15 +50,13 @@ module _ {Z : Type 0} where
   own_entries : (client : ℕ) (lines : List (Box Line Z))
       → map entry_of (map (λ l. as_of client l.value) (own client lines)) ≡ own_lines client (entries_of (said lines))
   own_entries client [] = refl
-  own_entries client (l ∷ lines) = by_test (nat_eq client l.value.caller.0) refl
+  own_entries client (l ∷ lines) = by_test (own_entries client lines) (nat_eq client l.value.caller.0) refl
     where
-      rest : map entry_of (map (λ (b : Box Line Z). as_of client b.value) (own client lines)) ≡ own_lines client (entries_of (said lines))
-      rest = own_entries client lines
-
-      by_test : (b : Bool) → nat_eq client l.value.caller.0 ≡ b
+      by_test : map entry_of (map (λ (b : Box Line Z). as_of client b.value) (own client lines)) ≡ own_lines client (entries_of (said lines))
+          → (b : Bool) → nat_eq client l.value.caller.0 ≡ b
           → map entry_of (map (λ (b : Box Line Z). as_of client b.value) (own client (l ∷ lines))) ≡ own_lines client (entries_of (said (l ∷ lines)))
-      by_test true is = rw is (λ i. entry_as client l.value (eqb-true client l.value.caller.0 is) i ∷ rest i)
-      by_test false is = rw is rest
+      by_test rest true is = rw is (λ i. entry_as client l.value (eqb-true client l.value.caller.0 is) i ∷ rest i)
+      by_test rest false is = rw is rest
 
   -- ---- the lines of the clients from one on
 
@@ -91,19 +89,21 @@ sum_below n (suc count) lines =
     ∙ (ap (λ k. lines_below k lines ++ sum_from (n + 1) count lines) (sym one) ∙ (sum_below (n + 1) count lines ∙ ap (λ k. lines_below k lines) next))
 
 -- whose lines they are
+owned_below : (n : ℕ) (lines : List Entry) → Each (λ e. e.caller.0 < suc n) (own_lines n lines)
+owned_below n [] = tt
+owned_below n (e ∷ lines) = by_test (owned_below n lines) (nat_eq n e.caller.0) refl
+  where
+    by_test : Each (λ e. e.caller.0 < suc n) (own_lines n lines) → (b : Bool) → nat_eq n e.caller.0 ≡ b
+        → Each (λ e. e.caller.0 < suc n) (own_lines n (e ∷ lines))
+    by_test rest true is = rw is (let same : n ≡ e.caller.0 = eqb-true n e.caller.0 is in omega (arith, same), rest)
+    by_test rest false is = rw is rest
+
 below_clients : (n : ℕ) (lines : List Entry) → Each (λ e. e.caller.0 < n) (lines_below n lines)
 below_clients zero lines = tt
 below_clients (suc n) lines =
     each_append (λ e. e.caller.0 < suc n) (lines_below n lines) (own_lines n lines)
-    (each_map (λ e. e.caller.0 < n) (λ e. e.caller.0 < suc n) (λ e lt. omega (arith, lt)) (lines_below n lines) (below_clients n lines)) (owned lines)
-  where
-    owned : (ls : List Entry) → Each (λ e. e.caller.0 < suc n) (own_lines n ls)
-    owned [] = tt
-    owned (e ∷ ls) = by_test (nat_eq n e.caller.0) refl
-      where
-        by_test : (b : Bool) → nat_eq n e.caller.0 ≡ b → Each (λ e. e.caller.0 < suc n) (own_lines n (e ∷ ls))
-        by_test true is = rw is (let same : n ≡ e.caller.0 = eqb-true n e.caller.0 is in omega (arith, same), owned ls)
-        by_test false is = rw is (owned ls)
+    (each_map (λ e. e.caller.0 < n) (λ e. e.caller.0 < suc n) (λ e lt. omega (arith, lt)) (lines_below n lines) (below_clients n lines))
+    (owned_below n lines)
 
 each_line : (Q : Entry → Type 0) (told : List Answered) → Each Q (map (λ t. t.line) told) → Each (λ t. Q t.line) told
 each_line Q [] h = tt

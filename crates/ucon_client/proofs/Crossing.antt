@@ -189,18 +189,20 @@ module _ (E D : RattleType) (g : engine.Ghosts E.Denot) (d : disk.Ghosts D.Denot
   boarded_send : IsSend (Boarded.the_row E D g d)
   boarded_send = view_send (boarded_inside.the_row E D g d) _ _ _ _ boarded_inside_send
 
-  pub client_send : IsSend (Client.the_row E D g d)
-  client_send =
-      recorded_send (Client.the_field E D g d).row _ _ (Client.the_type E D g d).to_one
-      (struct_send (structs.shape (Client.the_type E D g d)) (
+  client_field_send : IsSend (Client.the_field E D g d).row
+  client_field_send =
+      struct_send (structs.shape (Client.the_type E D g d)) (
         part_field_send,
         (seat.the_send (Boarded.the_row E D g d) Event.the_row boarded_send, (search (looks.the_send, crosses, sendable) depth 20, tt)),
-      ))
+      )
+
+  pub client_send : IsSend (Client.the_row E D g d)
+  client_send = recorded_send (Client.the_field E D g d).row _ _ (Client.the_type E D g d).to_one client_field_send
 
   pub live_client_send : IsSend (LiveClient.the_row E D g d)
   live_client_send =
       recorded_send (LiveClient.the_field E D g d).row _ _ (LiveClient.the_type E D g d).to_one
-      (struct_send (structs.shape (LiveClient.the_type E D g d)) (client_send, (search (taker.the_send, line_send, crosses, sendable) depth 30, (search (crosses, sendable) depth 20, tt))))
+      (struct_send (structs.shape (LiveClient.the_type E D g d)) (client_field_send, (search (taker.the_send, line_send, crosses, sendable) depth 30, (search (crosses, sendable) depth 20, tt))))
 
   abbrev turned_ghosts : Turned.Ghosts (Boarded.the_row E D g d).Denot (SharedBase.the_row).Denot (Event.the_row).Denot
   turned_ghosts = turned.ghosts E D g turned.no_dict d turned.no_dict turned.no_dict

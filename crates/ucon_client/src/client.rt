@@ -19,7 +19,6 @@ use ucon_turn::{Seat, Turn};
 
 /// A client of a store behind a turn. If it has a reader of the store's board, it reads looks there without a turn, and its next turn confirms
 /// them.
-#[derive(Drop)]
 pub struct Client<E: Engine, D: Disk> {
     pub part: Part,
     pub seat: Seat<Boarded<E, D>>,
@@ -45,6 +44,7 @@ impl<E: Engine, D: Disk> Client<E, D> {
         ensures client { (result.part ≡ part) × (result.seat ≡ seat) }
         ensures serves { ServesWith turn.now result.part result.seat result.looks }
         ensures none_held { held_by result.looks ≡ [] }
+        ensures alone { reader ≡ None → result.looks ≡ None }
     {
         let looks = match reader {
             Some(reader) => Some(Looks::new(alloc, reader)),

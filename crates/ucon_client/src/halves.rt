@@ -23,6 +23,7 @@ use ucon_turn::Turn;
 /// Serves all clients, each in a thread of its own, and feeds them in this one. Where no thread can be had it feeds first, so that what serves comes
 /// to its end; a full inbox then waits for ever.
 pub fn serve_while_fed<
+    'a,
     E: Engine + Send,
     S: Source,
     D: Disk + Send,
@@ -31,8 +32,8 @@ pub fn serve_while_fed<
 >(
     rt: &R,
     alloc: Global,
-    clients: &mut Vec<LiveClient<E, D>>,
-    turn: &Turn<Boarded<E, D>>,
+    clients: &'a mut Vec<LiveClient<E, D>>,
+    turn: &'a Turn<Boarded<E, D>>,
     gate: &G,
     script: &mut ComingScript,
     source: &mut S,

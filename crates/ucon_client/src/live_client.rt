@@ -22,7 +22,6 @@ use ucon_script::Line;
 use ucon_turn::{Seat, Turn};
 
 /// A client whose lines come through an inbox while it runs.
-#[derive(Drop)]
 pub struct LiveClient<E: Engine, D: Disk> {
     /// The lines that there was room for, with their answers.
     pub client: Client<E, D>,

@@ -17,7 +17,7 @@ use crate::gate::Gate;
 use crate::halves::serve_while_fed;
 use crate::live_client::LiveClient;
 use crate::part::Part;
-use crate::serving::join_all;
+use crate::serving::{join_all, room_for};
 use crate::{Feeder, Taker, inbox};
 use std::alloc::Global;
 use std::sync::Wait;
@@ -68,17 +68,17 @@ pub fn live<E: Engine + Send, S: Source, D: Disk + Send, G: Gate + Sync, R: Thre
     ensures failed { IfOk result (λ r. IsErrOf r.stop ScriptStop.SourceFault → (S.seen source.new).faults ≡ raised (S.seen source.old).faults) }
     ensures unfailed { IfOk result (λ r. r.stop ≢ Err ScriptStop.SourceFault → (S.seen source.new).faults ≡ (S.seen source.old).faults) }
 {
-    let room = match room_for(alloc) {
+    let boarded = Boarded::new(alloc, store)?;
+    let room = match Room::new(alloc) {
         Ok(room) => room,
-        Err(want) => return Err((store, want)),
-    };
-    let boarded = match Boarded::new(alloc, store) {
-        Ok(boarded) => boarded,
-        Err(handed_back) => return Err(handed_back),
+        Err(want) => return Err((boarded.into_store(rt), want)),
     };
     let (turn, mut seat) = match Turn::open(alloc, boarded) {
         Ok(opened) => opened,
-        Err((boarded, want)) => return Err((boarded.into_store(rt), want)),
+        Err((boarded, want)) => {
+            room.give_up();
+            return Err((boarded.into_store(rt), want));
+        }
     };
     let (parts, short, stop) = live_over(rt, alloc, &turn, &mut seat, room, script, source, gate);
     let boarded = turn.close(seat);
@@ -134,7 +134,6 @@ fn live_over<E: Engine + Send, S: Source, D: Disk + Send, G: Gate + Sync, R: Thr
 }
 
 /// All memory of a live run but that of lines, answers and steps.
-#[derive(Drop)]
 struct Room<E: Engine, D: Disk> {
     feeders: Vec<Feeder<Box<Line>>>,
     takers: Vec<Taker<Box<Line>>>,
@@ -167,16 +166,38 @@ fn inboxes(alloc: Global) -> Result<(Vec<Feeder<Box<Line>>>, Vec<Taker<Box<Line>
     Ok((feeders, takers))
 }
 
-/// An inbox for each client, and room for all clients.
-fn room_for<E: Engine, D: Disk>(alloc: Global) -> Result<Room<E, D>, NoMemory> {
-    let (feeders, takers) = inboxes(alloc)?;
-    Ok(Room {
-        feeders,
-        takers,
-        coming: Vec::with_capacity(alloc, CLIENTS)?,
-        served: Vec::with_capacity(alloc, CLIENTS)?,
-        parts: Vec::with_capacity(alloc, CLIENTS)?,
-    })
+impl<E: Engine, D: Disk> Room<E, D> {
+    /// An inbox for each client, and room for all clients.
+    fn new(alloc: Global) -> Result<Room<E, D>, NoMemory> {
+        let (feeders, takers) = inboxes(alloc)?;
+        let (served, parts) = room_for(alloc, CLIENTS)?;
+        match Vec::with_capacity(alloc, CLIENTS) {
+            Ok(coming) => Ok(Room {
+                feeders,
+                takers,
+                coming,
+                served,
+                parts,
+            }),
+            Err(want) => {
+                served.destroy_empty();
+                Err(want.into())
+            }
+        }
+    }
+
+    /// Gives the memory back, as no client is there yet.
+    fn give_up(self) {
+        let Room {
+            feeders: _,
+            takers: _,
+            coming,
+            served,
+            parts: _,
+        } = self;
+        coming.destroy_empty();
+        served.destroy_empty();
+    }
 }
 
 /// Splits a seat for each client, by rising number.
@@ -219,12 +240,13 @@ fn finish_all<E: Engine, D: Disk>(
     ensures numbers { map (λ c. c.part.number) served.new.items ≡ map (λ c. c.client.part.number) clients.items }
     ensures taken { HaveTaken (map (λ c. c.part) served.new.items) (map (λ f. f.fed.lines) feeders.items) result }
 {
+    let mut clients = clients;
     let mut short = None;
-    let mut feeders = feeders;
-    for client in clients {
-        let (client, want) = client.finish(feeders.remove(0));
+    for feeder in feeders {
+        let (client, want) = clients.remove(0).finish(feeder);
         served.push_reserved(client);
         short = short.or(want);
     }
+    clients.destroy_empty();
     short
 }

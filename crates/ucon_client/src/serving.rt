@@ -163,7 +163,7 @@ pub fn serve<E: Engine + Send, D: Disk + Send, G: Gate + Sync, R: Threads + Wait
 }
 
 /// Room for so many clients, and for so many answered parts.
-fn room_for<E: Engine, D: Disk>(
+pub(crate) fn room_for<E: Engine, D: Disk>(
     alloc: Global,
     count: usize,
 ) -> Result<(Vec<Client<E, D>>, Vec<Part>), NoMemory>

@@ -1,4 +1,4 @@
-use Rattle.std.proofs.Common.{Global, rules, ◌≡◌, ℕ, List, [], ◌∷◌, ◌++◌, None, Option, true, map, length, get_or, drop, refl, sym, ap, ◌∙◌, subst}
+use Rattle.std.proofs.Common.{Global, rules, ◌≡◌, ℕ, ◌+◌, ◌<◌, List, [], ◌∷◌, ◌++◌, None, Option, true, map, length, get_or, drop, arith, refl, sym, ap, ◌∙◌, subst}
 use Rattle.std.specs.Prelude.{Box}
 use Rattle.std.proofs.lemmas.List.{append_assoc, append-nil, map-append}
 use Rattle.ucon_base.specs.declared.no_memory.NoMemory.{NoMemory}
@@ -8,75 +8,145 @@ use Rattle.ucon_client.specs.declared.client.Client.{Client}
 use Rattle.ucon_client.specs.declared.live_client.LiveClient.{LiveClient}
 use Rattle.ucon_client.specs.declared.part.Part.{Part}
 use Rattle.ucon_client.specs.Answers.{IsAnswered, ServesWith}
-use Rattle.ucon_client.specs.Inbox.{Fed}
-use Rattle.ucon_client.specs.Live.{HasTaken, HaveTaken, Lives}
+use Rattle.ucon_client.specs.Inbox.{Fed, Which}
+use Rattle.ucon_client.specs.Live.{HaveTaken, Lives}
 use Rattle.ucon_client.proofs.AllLive.{first_of, less_short, none_of_none, or_none}
 use Rattle.ucon_client.proofs.AllTold.{taken_more, taken_push}
 use Rattle.ucon_client.proofs.Taking.{lives_with}
+use Rattle.ucon_client.proofs.living.finish_all.Given.{Over}
+use Rattle.ucon_client.proofs.living.finish_all.Goals.{After-remove}
 use Rattle.ucon_client.proofs.living.finish_all.Goals as goal
 
-pub loop-client-preserved : goal.loop-client-preserved
-loop-client-preserved g c =
-    let i = c.loop-client.invariant in
+-- the client that is taken out is the first one that is left, and its inbox is that of the next feeder
+module _ (g : Over) (c : After-remove g) where
+  abbrev L : Type 0
+  L = LiveClient g.row.E.Denot g.row.D.Denot
+
+  abbrev F : Type 0
+  F = Fed (Box Line Global)
+
+  abbrev Fair : L → Type 0
+  Fair d = Lives c.args.turn.now d.client d.taker.taken.lines d.short × (d.taker.taken.ended ≡ true)
+
+  abbrev inbox_of : L → Which (Box Line Global)
+  inbox_of d = d.taker.inbox
+
+  abbrev left : List L
+  left = c.loop-feeder.clients.items
+
+  feeders : c.loop-feeder.feeder-iterator.rest.items ≡ c.in-Some.feeder ∷ c.next.new.self.rest.items
+  feeders = c.in-Some.ensures.steps.0
+
+  inboxes : map inbox_of left ≡ c.in-Some.feeder.inbox ∷ map (λ (f : F). f.inbox) c.next.new.self.rest.items
+  inboxes = c.loop-feeder.invariant.inboxes ∙ ap (map (λ (f : F). f.inbox)) feeders
+
+  split : left ≡ c.remove.result ∷ drop 1 left
+  split = first_of inbox_of left c.in-Some.feeder.inbox (map (λ (f : F). f.inbox) c.next.new.self.rest.items) c.remove.result inboxes c.remove.ensures.value
+
+  same_inboxes : inbox_of c.remove.result ∷ map inbox_of (drop 1 left) ≡ c.in-Some.feeder.inbox ∷ map (λ (f : F). f.inbox) c.next.new.self.rest.items
+  same_inboxes = sym (ap (map inbox_of) split) ∙ inboxes
+
+  live : Fair c.remove.result × Each Fair (drop 1 left)
+  live = subst (Each Fair) split c.loop-feeder.invariant.live
+
+pub remove-requires : goal.remove-requires
+remove-requires g c =
+    let feeders : c.loop-feeder.feeder-iterator.rest.items ≡ c.in-Some.feeder ∷ c.next.new.self.rest.items = c.in-Some.ensures.steps.0 in
     let L : Type 0 = LiveClient g.row.E.Denot g.row.D.Denot in
-    let C : Type 0 = Client g.row.E.Denot g.row.D.Denot in
     let F : Type 0 = Fed (Box Line Global) in
-    let Fair : L → Type 0 = λ d. Lives c.args.turn.now d.client d.taker.taken.lines d.short × (d.taker.taken.ended ≡ true) in
+    let inboxes : map (λ (d : L). d.taker.inbox) c.loop-feeder.clients.items ≡ c.in-Some.feeder.inbox ∷ map (λ (f : F). f.inbox) c.next.new.self.rest.items =
+    c.loop-feeder.invariant.inboxes ∙ ap (map (λ (f : F). f.inbox)) feeders in
+    some_left (λ (d : L). d.taker.inbox) c.loop-feeder.clients.items c.loop-feeder.clients.len c.loop-feeder.clients.ok.0 inboxes
+  where
+    some_left : {X Y : Type 0} (inbox : X → Y) (xs : List X) {b : Y} {bs : List Y} (n : ℕ) → n ≡ length xs → map inbox xs ≡ b ∷ bs → 0 < n
+    some_left inbox [] n long are = absurd (cc are)
+    some_left inbox (x ∷ xs) n long are = omega (arith, long)
+
+pub finish-client-requires-clause-inbox : goal.finish-client-requires-clause-inbox
+finish-client-requires-clause-inbox g c =
+    let e = (goal.at.finish-client-requires-clause-inbox g c).After-remove in
+    ap (λ (l : List (Which (Box Line Global))). get_or l 0 c.in-Some.feeder.inbox) (same_inboxes g e)
+
+pub finish-client-requires-clause-ended : goal.finish-client-requires-clause-ended
+finish-client-requires-clause-ended g c = (live g (goal.at.finish-client-requires-clause-ended g c).After-remove).0.1
+
+pub finish-client-requires-clause-taken : goal.finish-client-requires-clause-taken
+finish-client-requires-clause-taken g c = (live g (goal.at.finish-client-requires-clause-taken g c).After-remove).0.0.has_taken
+
+pub push_reserved-requires : goal.push_reserved-requires
+push_reserved-requires g c =
+    let e = (goal.at.push_reserved-requires g c).After-remove in
+    omega (arith, c.loop-feeder.invariant.room.0, c.loop-feeder.invariant.room.1, ap length (split g e), c.loop-feeder.clients.ok.0)
+
+pub loop-feeder-preserved : goal.loop-feeder-preserved
+loop-feeder-preserved g c =
+    let e = (goal.at.loop-feeder-preserved g c).After-remove in
+    let i = c.loop-feeder.invariant in
+    let C : Type 0 = Client g.row.E.Denot g.row.D.Denot in
     let Serve : C → Type 0 = λ d. ServesWith c.args.turn.now d.part d.seat d.looks in
-    let taken : L = c.in-Some.client in
-    let rest : List L = c.next.new.self.rest.items in
-    let done : List L = c.loop-client.yielded in
-    let first : c.loop-client.client-iterator.rest.items ≡ taken ∷ rest = c.in-Some.ensures.steps.0 in
-    let live : Fair taken × Each Fair rest = subst (Each Fair) first i.live in
+    let taken : L g e = c.remove.result in
+    let feeder : F g e = c.in-Some.feeder in
+    let rest : List (F g e) = c.next.new.self.rest.items in
+    let done : List (F g e) = c.loop-feeder.yielded in
+    let others : List (L g e) = drop 1 (left g e) in
     let client : C = c.finish-client.result.0 in
     let want : Option NoMemory = c.finish-client.result.1 in
-    let e = c.finish-client.ensures in
-    let served : List C = c.loop-client.served.items in
+    let f = c.finish-client.ensures in
+    let served : List C = c.loop-feeder.served.items in
     let items : c.push_reserved.new.self.items ≡ served ++ client ∷ [] = c.push_reserved.ensures.items in
-    let feeders : List F = c.loop-client.feeders.items in
-    let feeder : F = c.remove.result in
-    let inboxes : taken.taker.inbox ∷ map (λ (d : L). d.taker.inbox) rest ≡ map (λ (f : F). f.inbox) feeders =
-    sym (ap (map (λ (d : L). d.taker.inbox)) first) ∙ i.inboxes in
-    let split : feeders ≡ feeder ∷ drop 1 feeders = first_of feeders taken.taker.inbox (map (λ (d : L). d.taker.inbox) rest) feeder inboxes c.remove.ensures.value in
-    let left : c.remove.new.self.items ≡ drop 1 feeders = c.remove.ensures.items in
-    let short : Option NoMemory = c.loop-client.short in
+    let gone : c.remove.new.self.items ≡ others = c.remove.ensures.by_index.2 in
+    let short : Option NoMemory = c.loop-feeder.short in
     let now : Option NoMemory = c.or-short.result in
     let both = or_none short want in
     let less : now ≡ None → (short ≡ None) × (want ≡ None) = λ none. both (sym c.or-short.ensures ∙ none) in
-    let parts : map (λ (d : C). d.part) (served ++ client ∷ []) ≡ map (λ (d : C). d.part) served ++ client.part ∷ [] = map-append (λ (d : C). d.part) served (client ∷ []) in
-    let given : List (List (Box Line Global)) = i.taken.0 in
+    let part_of : C → Part = λ d. d.part in
+    let number_of : C → ℕ = λ d. d.part.number in
+    let own_number : L g e → ℕ = λ d. d.client.part.number in
+    let fed_to : F g e → List (Box Line Global) = λ d. d.fed.lines in
     record {
-      serves = subst (Each Serve) (sym items) (each_append Serve served (client ∷ []) i.serves (subst Serve (sym e.client) (lives_with c.args.turn.now taken.client live.0.0), tt));
+      serves = subst (Each Serve) (sym items) (each_append Serve served (client ∷ []) i.serves (subst Serve (sym f.client) (lives_with c.args.turn.now taken.client (live g e).0.0), tt));
       all = subst (Each (λ (d : C). IsAnswered d.part)) (sym items)
-          (each_append (λ (d : C). IsAnswered d.part) served (client ∷ []) i.all (subst (λ (d : C). IsAnswered d.part) (sym e.client) live.0.0.answered, tt));
-      numbers = ap (map (λ (d : C). d.part.number)) items
-          ∙ (map-append (λ (d : C). d.part.number) served (client ∷ [])
-          ∙ ((λ j. i.numbers j ++ (e.client j).part.number ∷ []) ∙ sym (map-append (λ (d : L). d.client.part.number) done (taken ∷ []))));
-      taken = (
-        given ++ feeder.fed.lines ∷ [],
-        subst (λ (ps : List Part). HaveTaken ps (given ++ feeder.fed.lines ∷ []) now) (sym (ap (map (λ (d : C). d.part)) items ∙ parts))
-            (taken_push (map (λ (d : C). d.part) served) given now client.part feeder.fed.lines
-            (taken_more (map (λ (d : C). d.part) served) given short now (λ none. (less none).0) i.taken.1)
-            (less_short client.part feeder.fed.lines want now (λ none. (less none).1) e.taken)),
-        i.taken.2
-            ∙ (ap (λ (fs : List F). given ++ map (λ (f : F). f.fed.lines) fs) split
-            ∙ (sym (append_assoc given (feeder.fed.lines ∷ []) (map (λ (f : F). f.fed.lines) (drop 1 feeders)))
-            ∙ ap (λ (fs : List F). (given ++ feeder.fed.lines ∷ []) ++ map (λ (f : F). f.fed.lines) fs) (sym left))),
-      );
-      live = live.1;
-      inboxes = ap (drop 1) (inboxes ∙ ap (map (λ (f : F). f.inbox)) split) ∙ ap (map (λ (f : F). f.inbox)) (sym left);
-      clients = i.clients ∙ (ap (λ l. done ++ l) first ∙ sym (append_assoc done (taken ∷ []) rest));
+          (each_append (λ (d : C). IsAnswered d.part) served (client ∷ []) i.all (subst (λ (d : C). IsAnswered d.part) (sym f.client) (live g e).0.0.answered, tt));
+      numbers = (λ j. map number_of (items j) ++ map own_number (gone j))
+          ∙ (ap (λ (ns : List ℕ). ns ++ map own_number others) (map-append number_of served (client ∷ []))
+          ∙ (append_assoc (map number_of served) (client.part.number ∷ []) (map own_number others)
+          ∙ (ap (λ (d : C). map number_of served ++ d.part.number ∷ map own_number others) f.client
+          ∙ (ap (λ (ls : List (L g e)). map number_of served ++ map own_number ls) (sym (split g e)) ∙ i.numbers))));
+      taken = subst (λ (z : List Part × List (List (Box Line Global))). HaveTaken z.0 z.1 now)
+          (λ j. (sym (ap (map part_of) items ∙ map-append part_of served (client ∷ [])) j, sym (map-append fed_to done (feeder ∷ [])) j))
+          (taken_push (map part_of served) (map fed_to done) now client.part feeder.fed.lines
+          (taken_more (map part_of served) (map fed_to done) short now (λ none. (less none).0) i.taken)
+          (less_short client.part feeder.fed.lines want now (λ none. (less none).1) f.taken));
+      live = subst (Each (Fair g e)) (sym gone) (live g e).1;
+      inboxes = ap (map (inbox_of g e)) gone ∙ ap (drop 1) (same_inboxes g e);
+      feeders = i.feeders ∙ (ap (λ l. done ++ l) (feeders g e) ∙ sym (append_assoc done (feeder ∷ []) rest));
       room = search rules;
     }
 
-pub returns-clause-taken : goal.returns-clause-taken
-returns-clause-taken g c =
-    let i = c.loop-client.invariant in
+pub destroy_empty-requires : goal.destroy_empty-requires
+destroy_empty-requires g c =
+    let L : Type 0 = LiveClient g.row.E.Denot g.row.D.Denot in
+    let over : c.loop-feeder.feeder-iterator.rest.items ≡ [] = search rules in
+    none_of_none (λ (d : L). d.taker.inbox) c.loop-feeder.clients.items
+    (c.loop-feeder.invariant.inboxes ∙ ap (map (λ (f : Fed (Box Line Global)). f.inbox)) over)
+
+pub returns-clause-numbers : goal.returns-clause-numbers
+returns-clause-numbers g c =
     let L : Type 0 = LiveClient g.row.E.Denot g.row.D.Denot in
     let C : Type 0 = Client g.row.E.Denot g.row.D.Denot in
+    let over : c.loop-feeder.feeder-iterator.rest.items ≡ [] = search rules in
+    let none : c.loop-feeder.clients.items ≡ [] = none_of_none (λ (d : L). d.taker.inbox) c.loop-feeder.clients.items
+    (c.loop-feeder.invariant.inboxes ∙ ap (map (λ (f : Fed (Box Line Global)). f.inbox)) over) in
+    let numbers : List ℕ = map (λ (d : C). d.part.number) c.loop-feeder.served.items in
+    sym (append-nil numbers)
+    ∙ (ap (λ (ls : List L). numbers ++ map (λ (d : L). d.client.part.number) ls) (sym none) ∙ c.loop-feeder.invariant.numbers)
+
+pub returns-clause-taken : goal.returns-clause-taken
+returns-clause-taken g c =
+    let C : Type 0 = Client g.row.E.Denot g.row.D.Denot in
     let F : Type 0 = Fed (Box Line Global) in
-    let over : c.loop-client.client-iterator.rest.items ≡ [] = search rules in
-    let feeders : List F = c.loop-client.feeders.items in
-    let none : feeders ≡ [] = none_of_none feeders (sym i.inboxes ∙ ap (map (λ (d : L). d.taker.inbox)) over) in
-    subst (λ (ls : List (List (Box Line Global))). HaveTaken (map (λ (d : C). d.part) c.loop-client.served.items) ls c.loop-client.short)
-    (sym (i.taken.2 ∙ (ap (λ (fs : List F). i.taken.0 ++ map (λ (f : F). f.fed.lines) fs) none ∙ append-nil i.taken.0))) i.taken.1
+    let over : c.loop-feeder.feeder-iterator.rest.items ≡ [] = search rules in
+    let all : c.loop-feeder.yielded ≡ c.args.feeders.items =
+    sym (c.loop-feeder.invariant.feeders ∙ (ap (λ (l : List F). c.loop-feeder.yielded ++ l) over ∙ append-nil c.loop-feeder.yielded)) in
+    subst (λ (fs : List F). HaveTaken (map (λ (d : C). d.part) c.loop-feeder.served.items) (map (λ (f : F). f.fed.lines) fs) c.loop-feeder.short) all
+    c.loop-feeder.invariant.taken
