@@ -35,6 +35,10 @@ pub none_of_none : {X Y : Type 0} (inbox : X → Y) (xs : List X) → map inbox 
 none_of_none inbox [] none = refl
 none_of_none inbox (x ∷ xs) none = absurd (cc none)
 
+pub none_of_short : {X : Type 0} (xs : List X) → length xs ≡ 0 → xs ≡ []
+none_of_short [] short = refl
+none_of_short (x ∷ xs) short = absurd (omega (arith, short))
+
 -- what holds of each by its place holds of all, and the other way round
 pub each_of_all : {C : Type 0} (Q : C → Type 0) (xs : List C) → ((k : ℕ) (d : C) → k < length xs → Q (get_or xs k d)) → Each Q xs
 each_of_all Q [] h = tt

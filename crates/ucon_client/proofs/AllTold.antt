@@ -60,7 +60,7 @@ module _ {Z : Type 0} where
 
   -- ---- the lines of the clients from one on
 
-  abbrev owns_from : ℕ → ℕ → List (Box Line Z) → List (List (Box Line Z))
+  abbrev pub owns_from : ℕ → ℕ → List (Box Line Z) → List (List (Box Line Z))
   owns_from n zero lines = []
   owns_from n (suc count) lines = own n lines ∷ owns_from (n + 1) count lines
 

@@ -1,5 +1,5 @@
 -- Clients whose lines come while they run: what each took, and what all of them were told.
-use Rattle.std.specs.Prelude.{Box, ◌≡◌, ℕ, ◌+◌, ◌<◌, true, false, List, [], ◌∷◌, ◌++◌, map, Option, Some, None, Result, Ok, Err, ⊤}
+use Rattle.std.specs.Prelude.{All, Box, length, slice_index_or, ◌≡◌, ℕ, ◌+◌, ◌<◌, true, false, List, [], ◌∷◌, ◌++◌, map, Option, Some, None, Result, Ok, Err, ⊤}
 use Rattle.ucon_base.specs.Elements.{Each}
 use Rattle.ucon_base.specs.declared.no_memory.NoMemory.{NoMemory}
 use Rattle.ucon_flow.specs.Seen.{SourceSeen}
@@ -18,6 +18,7 @@ use Rattle.ucon_store.specs.declared.event.Event.TheVariants.{Done}
 use Rattle.ucon_store.specs.Kept.{Kept}
 use Rattle.ucon_store.specs.Whole.{IsFront}
 use Rattle.ucon_client.specs.declared.client.Client.{Client}
+use Rattle.ucon_client.specs.declared.live_client.LiveClient.{LiveClient}
 use Rattle.ucon_client.specs.declared.part.Part.{Part}
 use Rattle.ucon_client.specs.Answers.{IsAnswered, Serves, told_in}
 use Rattle.ucon_client.specs.Boarded.{IsMarkOf, Sharing}
@@ -51,6 +52,13 @@ module _ {Z : Type 0} where
   HaveTaken [] (taken ∷ others) short = ⊥
   HaveTaken (p ∷ parts) [] short = ⊥
   HaveTaken (p ∷ parts) (taken ∷ others) short = HasTaken p taken short × HaveTaken parts others short
+
+-- These clients live, and were served up to the end word. They are the same ones.
+pub record AreThrough {E D : Type 0} (turn : Opening (Sharing D)) (old new : List (LiveClient E D)) : Type 0 where
+  pub live : All (λ c. Lives turn c.client c.taker.taken.lines c.short × (c.taker.taken.ended ≡ true)) new
+  pub as_many : length new ≡ length old
+  pub same : (i : ℕ) (d : LiveClient E D) → i < length old → ((slice_index_or new i d).taker.inbox ≡ (slice_index_or old i d).taker.inbox)
+      × ((slice_index_or new i d).client.part.number ≡ (slice_index_or old i d).client.part.number)
 
 -- these numbers are those from this one on
 abbrev pub AreFrom : ℕ → List ℕ → Type 0

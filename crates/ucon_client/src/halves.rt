@@ -1,9 +1,9 @@
 //! The two halves of a live run: one runs the clients, and the other feeds them.
 
-ghost use Rattle.std.specs.Prelude.{◌≡◌, ◌≢◌, ℕ, ◌<◌, ◌≤◌, All, Err, IsErrOf, false, length, slice_index_or, true};
+ghost use Rattle.std.specs.Prelude.{◌≡◌, ◌≢◌, ◌≤◌, All, Err, IsErrOf, false, length};
 ghost use Rattle.ucon_flow.specs.Causes.{raised};
 ghost use Rattle.ucon_client.specs.Feeding.{HasFed};
-ghost use Rattle.ucon_client.specs.Live.{Lives};
+ghost use Rattle.ucon_client.specs.Live.{AreThrough, Lives};
 
 use crate::Feeder;
 use crate::boarded::Boarded;
@@ -42,11 +42,7 @@ pub fn serve_while_fed<
     requires live { All (λ c. Lives turn.now c.client c.taker.taken.lines c.short × (c.taker.taken.ended ≡ false)) clients.old.items }
     requires clients { 64 ≤ length feeders.old.items }
     requires running { All (λ f. f.fed.ended ≡ false) feeders.old.items }
-    ensures live { All (λ c. Lives turn.now c.client c.taker.taken.lines c.short × (c.taker.taken.ended ≡ true)) clients.new.items }
-    ensures clients { length clients.new.items ≡ length clients.old.items }
-    ensures same { (i : ℕ) (d : _) → i < length clients.old.items
-        → ((slice_index_or clients.new.items i d).taker.inbox ≡ (slice_index_or clients.old.items i d).taker.inbox)
-        × ((slice_index_or clients.new.items i d).client.part.number ≡ (slice_index_or clients.old.items i d).client.part.number) }
+    ensures through { AreThrough turn.now clients.old.items clients.new.items }
     ensures fed { HasFed S.seen script.old script.new source.old source.new feeders.old.items feeders.new.items result }
     ensures length { length feeders.new.items ≡ length feeders.old.items }
     ensures failed { IsErrOf result ScriptStop.SourceFault → (S.seen source.new).faults ≡ raised (S.seen source.old).faults }
@@ -74,11 +70,7 @@ fn serve_all<E: Engine + Send, D: Disk + Send, G: Gate + Sync, R: Threads + Wait
     gate: &G,
 )
     requires live { All (λ c. Lives turn.now c.client c.taker.taken.lines c.short × (c.taker.taken.ended ≡ false)) clients.old }
-    ensures live { All (λ c. Lives turn.now c.client c.taker.taken.lines c.short × (c.taker.taken.ended ≡ true)) clients.new }
-    ensures length { length clients.new ≡ length clients.old }
-    ensures same { (i : ℕ) (d : _) → i < length clients.old
-        → ((slice_index_or clients.new i d).taker.inbox ≡ (slice_index_or clients.old i d).taker.inbox)
-        × ((slice_index_or clients.new i d).client.part.number ≡ (slice_index_or clients.old i d).client.part.number) }
+    ensures { AreThrough turn.now clients.old clients.new }
 {
     let threads = clients.len().max(1);
     thread::for_each_mut(

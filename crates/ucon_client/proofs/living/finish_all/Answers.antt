@@ -10,7 +10,7 @@ use Rattle.ucon_client.specs.declared.part.Part.{Part}
 use Rattle.ucon_client.specs.Answers.{IsAnswered, ServesWith}
 use Rattle.ucon_client.specs.Inbox.{Fed, Which}
 use Rattle.ucon_client.specs.Live.{HaveTaken, Lives}
-use Rattle.ucon_client.proofs.AllLive.{first_of, less_short, none_of_none, or_none}
+use Rattle.ucon_client.proofs.AllLive.{first_of, less_short, none_of_none, none_of_short, or_none}
 use Rattle.ucon_client.proofs.AllTold.{taken_more, taken_push}
 use Rattle.ucon_client.proofs.Taking.{lives_with}
 use Rattle.ucon_client.proofs.living.finish_all.Given.{Over}
@@ -49,34 +49,10 @@ module _ (g : Over) (c : After-remove g) where
   live : Fair c.remove.result × Each Fair (drop 1 left)
   live = subst (Each Fair) split c.loop-feeder.invariant.live
 
-pub remove-requires : goal.remove-requires
-remove-requires g c =
-    let feeders : c.loop-feeder.feeder-iterator.rest.items ≡ c.in-Some.feeder ∷ c.next.new.self.rest.items = c.in-Some.ensures.steps.0 in
-    let L : Type 0 = LiveClient g.row.E.Denot g.row.D.Denot in
-    let F : Type 0 = Fed (Box Line Global) in
-    let inboxes : map (λ (d : L). d.taker.inbox) c.loop-feeder.clients.items ≡ c.in-Some.feeder.inbox ∷ map (λ (f : F). f.inbox) c.next.new.self.rest.items =
-    c.loop-feeder.invariant.inboxes ∙ ap (map (λ (f : F). f.inbox)) feeders in
-    some_left (λ (d : L). d.taker.inbox) c.loop-feeder.clients.items c.loop-feeder.clients.len c.loop-feeder.clients.ok.0 inboxes
-  where
-    some_left : {X Y : Type 0} (inbox : X → Y) (xs : List X) {b : Y} {bs : List Y} (n : ℕ) → n ≡ length xs → map inbox xs ≡ b ∷ bs → 0 < n
-    some_left inbox [] n long are = absurd (cc are)
-    some_left inbox (x ∷ xs) n long are = omega (arith, long)
-
 pub finish-client-requires-clause-inbox : goal.finish-client-requires-clause-inbox
 finish-client-requires-clause-inbox g c =
     let e = (goal.at.finish-client-requires-clause-inbox g c).After-remove in
     ap (λ (l : List (Which (Box Line Global))). get_or l 0 c.in-Some.feeder.inbox) (same_inboxes g e)
-
-pub finish-client-requires-clause-ended : goal.finish-client-requires-clause-ended
-finish-client-requires-clause-ended g c = (live g (goal.at.finish-client-requires-clause-ended g c).After-remove).0.1
-
-pub finish-client-requires-clause-taken : goal.finish-client-requires-clause-taken
-finish-client-requires-clause-taken g c = (live g (goal.at.finish-client-requires-clause-taken g c).After-remove).0.0.has_taken
-
-pub push_reserved-requires : goal.push_reserved-requires
-push_reserved-requires g c =
-    let e = (goal.at.push_reserved-requires g c).After-remove in
-    omega (arith, c.loop-feeder.invariant.room.0, c.loop-feeder.invariant.room.1, ap length (split g e), c.loop-feeder.clients.ok.0)
 
 pub loop-feeder-preserved : goal.loop-feeder-preserved
 loop-feeder-preserved g c =
@@ -94,7 +70,7 @@ loop-feeder-preserved g c =
     let f = c.finish-client.ensures in
     let served : List C = c.loop-feeder.served.items in
     let items : c.push_reserved.new.self.items ≡ served ++ client ∷ [] = c.push_reserved.ensures.items in
-    let gone : c.remove.new.self.items ≡ others = c.remove.ensures.by_index.2 in
+    let gone : c.remove.new.self.items ≡ others = c.remove.ensures.items in
     let short : Option NoMemory = c.loop-feeder.short in
     let now : Option NoMemory = c.or-short.result in
     let both = or_none short want in
@@ -123,30 +99,14 @@ loop-feeder-preserved g c =
       room = search rules;
     }
 
-pub destroy_empty-requires : goal.destroy_empty-requires
-destroy_empty-requires g c =
-    let L : Type 0 = LiveClient g.row.E.Denot g.row.D.Denot in
-    let over : c.loop-feeder.feeder-iterator.rest.items ≡ [] = search rules in
-    none_of_none (λ (d : L). d.taker.inbox) c.loop-feeder.clients.items
-    (c.loop-feeder.invariant.inboxes ∙ ap (map (λ (f : Fed (Box Line Global)). f.inbox)) over)
-
 pub returns-clause-numbers : goal.returns-clause-numbers
 returns-clause-numbers g c =
     let L : Type 0 = LiveClient g.row.E.Denot g.row.D.Denot in
     let C : Type 0 = Client g.row.E.Denot g.row.D.Denot in
-    let over : c.loop-feeder.feeder-iterator.rest.items ≡ [] = search rules in
+    let short : length c.loop-feeder.feeder-iterator.rest.items ≡ 0 = search rules in
+    let over : c.loop-feeder.feeder-iterator.rest.items ≡ [] = none_of_short c.loop-feeder.feeder-iterator.rest.items short in
     let none : c.loop-feeder.clients.items ≡ [] = none_of_none (λ (d : L). d.taker.inbox) c.loop-feeder.clients.items
     (c.loop-feeder.invariant.inboxes ∙ ap (map (λ (f : Fed (Box Line Global)). f.inbox)) over) in
     let numbers : List ℕ = map (λ (d : C). d.part.number) c.loop-feeder.served.items in
     sym (append-nil numbers)
     ∙ (ap (λ (ls : List L). numbers ++ map (λ (d : L). d.client.part.number) ls) (sym none) ∙ c.loop-feeder.invariant.numbers)
-
-pub returns-clause-taken : goal.returns-clause-taken
-returns-clause-taken g c =
-    let C : Type 0 = Client g.row.E.Denot g.row.D.Denot in
-    let F : Type 0 = Fed (Box Line Global) in
-    let over : c.loop-feeder.feeder-iterator.rest.items ≡ [] = search rules in
-    let all : c.loop-feeder.yielded ≡ c.args.feeders.items =
-    sym (c.loop-feeder.invariant.feeders ∙ (ap (λ (l : List F). c.loop-feeder.yielded ++ l) over ∙ append-nil c.loop-feeder.yielded)) in
-    subst (λ (fs : List F). HaveTaken (map (λ (d : C). d.part) c.loop-feeder.served.items) (map (λ (f : F). f.fed.lines) fs) c.loop-feeder.short) all
-    c.loop-feeder.invariant.taken

@@ -43,11 +43,11 @@ module _ (g : Over) (c : After-serve_while_fed-stop g) where
       c.serve_while_fed-stop.result c.serve_while_fed-stop.ensures.fed
 
   as_many : length now ≡ length old
-  as_many = c.serve_while_fed-stop.ensures.clients
+  as_many = c.serve_while_fed-stop.ensures.through.as_many
 
   inboxes : map (λ (d : L). d.taker.inbox) now ≡ map (λ (f : Fed (Box Line Global)). f.inbox) fed
   inboxes =
-      same_by_place (λ (d : L). d.taker.inbox) old now as_many (λ k d lt. (c.serve_while_fed-stop.ensures.same k d lt).0)
+      same_by_place (λ (d : L). d.taker.inbox) old now as_many (λ k d lt. (c.serve_while_fed-stop.ensures.through.same k d lt).0)
       ∙ (sym (map_twice (λ t. t.inbox) (λ (d : L). d.taker) old)
       ∙ (ap (map (λ t. t.inbox)) c.seat_all.ensures.takers
       ∙ (c.args.room.inboxes
@@ -58,13 +58,13 @@ module _ (g : Over) (c : After-serve_while_fed-stop g) where
   numbers : (clients : List C) → map (λ (d : C). d.part.number) clients ≡ map (λ (d : L). d.client.part.number) now
       → map number (map (λ (d : C). d.part) clients) ≡ map (λ (d : L). d.client.part.number) old
   numbers clients are = seated_numbers (λ (d : L). d.client.part.number) (λ (d : C). d.part) old now clients as_many
-      (λ k d lt. (c.serve_while_fed-stop.ensures.same k d lt).1) are
+      (λ k d lt. (c.serve_while_fed-stop.ensures.through.same k d lt).1) are
 
 pub finish_all-short-requires-clause-live : goal.finish_all-short-requires-clause-live
 finish_all-short-requires-clause-live g c =
     let e = (goal.at.finish_all-short-requires-clause-live g c).After-serve_while_fed-stop in
     each_of_all (λ (d : L g e). Lives c.args.turn.now d.client d.taker.taken.lines d.short × (d.taker.taken.ended ≡ true))
-    (now g e) c.serve_while_fed-stop.ensures.live
+    (now g e) c.serve_while_fed-stop.ensures.through.live
 
 pub finish_all-short-requires-clause-inboxes : goal.finish_all-short-requires-clause-inboxes
 finish_all-short-requires-clause-inboxes g c = inboxes g (goal.at.finish_all-short-requires-clause-inboxes g c).After-serve_while_fed-stop
