@@ -18,3 +18,6 @@ pub mod Playing
 pub mod Pointing
 pub mod TellingForms
 pub mod Told
+pub mod Living
+pub mod LiveCompleting
+pub mod Unlived

@@ -14,6 +14,7 @@ ghost use Rattle.ucon_top.specs.OwnReading.{IsAccepted, IsCutOutputOf, IsOutputO
 use crate::document::output_of;
 use crate::form::{Form, read_form};
 use crate::laws::accepted_documents_are_not_refused;
+use crate::live::live;
 use crate::play::play;
 use crate::point::point;
 use crate::serve::serve;
@@ -37,7 +38,8 @@ const LIMIT: usize = 4_194_304;
 ///
 /// `serve` runs the document over the journal on the disk, each client in a thread of its own. It writes one answer a line, client by client by
 /// rising number, when all threads have returned; the gate is told of each line. `board` does the same, and reads a `look` off a board without a
-/// turn. `run_alone` does all other forms.
+/// turn. `live` does the same while the document's script is still being written: each line is answered once it is there. `run_alone` does all
+/// other forms.
 pub fn run<S: Source, K: Sink, D: Disk + Send, G: Gate + Sync, R: Threads + Wait + Sync>(
     rt: &R,
     alloc: Global,
@@ -62,6 +64,7 @@ pub fn run<S: Source, K: Sink, D: Disk + Send, G: Gate + Sync, R: Threads + Wait
         None => Ended::by(Outcome::Usage, disk),
         Some(Form::Serve) => serve_input(rt, alloc, Form::Serve, input, out, disk, gate),
         Some(Form::Board) => serve_input(rt, alloc, Form::Board, input, out, disk, gate),
+        Some(Form::Live) => live_input(rt, alloc, input, out, disk, gate),
         Some(form) => run_alone(rt, alloc, form, input, out, disk),
     }
 }
@@ -113,7 +116,7 @@ pub fn run_alone<S: Source, K: Sink, D: Disk, R: Threads + Sync>(
         Form::Trial | Form::Check | Form::Gen { seed: _, size: _ } => {
             Ended::by(print_output(alloc, form, &bytes, out), disk)
         }
-        Form::Serve | Form::Board => unreachable!(),
+        Form::Serve | Form::Board | Form::Live => unreachable!(),
     }
 }
 
