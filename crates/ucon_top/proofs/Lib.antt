@@ -20,4 +20,5 @@ pub mod TellingForms
 pub mod Told
 pub mod Living
 pub mod LiveCompleting
+pub mod LiveEnds
 pub mod Unlived

@@ -1,5 +1,5 @@
 -- A live run that nothing hinders is complete, and one that ends by too long an input had one.
-use Rattle.std.proofs.Common.{◌≡◌, ◌⊎◌, ⊎_elim, ◌+◌, ◌<◌, ◌≤◌, ◌++◌, length, length-append, length-take, min, refl, ap, subst, ◌∙◌, sym, arith}
+use Rattle.std.proofs.Common.{◌≡◌, ◌≢◌, ◌⊎◌, ⊎_elim, true, false, ◌+◌, ◌<◌, ◌≤◌, ◌++◌, length, length-append, length-take, min, refl, ap, subst, ◌∙◌, sym, arith}
 use Rattle.std.specs.Prelude.{List, Option, Some, None, IfSome, Ok}
 use Rattle.ucon_flow.specs.Lines.{first_line, newline}
 use Rattle.ucon_disk.specs.Causes.{raised}
@@ -11,9 +11,11 @@ use Rattle.ucon_script.specs.ComingScript.{IsRefusal}
 use Rattle.ucon_syntax.specs.Policies.{accepted}
 use Rattle.ucon_outcome.specs.declared.outcome.Outcome.{Outcome}
 use Rattle.ucon_outcome.specs.declared.outcome.Outcome.TheVariants as outcomes
-use Rattle.ucon_top.specs.declared.form.Form.TheVariants.{Live}
+use Rattle.ucon_top.specs.declared.form.Form.TheVariants.{Live, Point}
 use Rattle.ucon_top.specs.Complete.{IsComplete}
 use Rattle.ucon_top.specs.Ending.{IsCounted, IsUnrefused, MayEnd}
+use Rattle.ucon_top.specs.Form.{ReadsWhole}
+use Rattle.ucon_top.specs.Ran.{HasCauses, HasLeft, HasMade}
 use Rattle.ucon_top.specs.OwnReading.{HasLived, HasLivedInput, IsAccepted, IsRefusedBy, IsScriptFault, IsUnhindered}
 use Rattle.ucon_top.specs.Seen.{Seen}
 use Rattle.ucon_top.proofs.Completing.{SeesOneThing, not_damaged, not_foreign, not_others, rose, too_much}
@@ -85,11 +87,49 @@ module _ (before after : Seen) where
       over (Some known) is long = λ u. by_outcome sees_one never known l.read u outcome
           (subst (λ (b : Bytes). HasLived outcome b l.read before after) (sym is) l.lived) sink disk long
 
-  -- it ends by nothing of a checkpoint, and its words are a form
-  pub may_live : (outcome : Outcome) → HasLivedInput outcome before after → MayEnd Live outcome
-  may_live outcome l = by_lived outcome l.lived
-    where
-      by_lived : (o : Outcome) → HasLived o l.bytes l.read before after → MayEnd Live o
-      by_lived (outcomes.FullPoint size) e = absurd e
-      by_lived outcomes.OldJournal e = absurd e
-      by_lived o e = (tt, tt, refl)
+  -- ---- what the clause says of it
+
+  may_live : (bytes read : Bytes) (outcome : Outcome) → HasLived outcome bytes read before after → MayEnd Live outcome
+  may_live bytes read (outcomes.FullPoint size) e = absurd e
+  may_live bytes read outcomes.OldJournal e = absurd e
+  may_live bytes read outcome e = (tt, tt, refl)
+
+  not_usage : (outcome : Outcome) → HasLivedInput outcome before after → outcome ≢ outcomes.Usage
+  not_usage outcome l is = let none : ⊥ = subst (λ (o : Outcome). HasLived o l.bytes l.read before after) is l.lived in none
+
+  not_whole : {A : Type 0} → ReadsWhole Live → A
+  not_whole whole = absurd (let none : false ≡ true = whole in cc none)
+
+  pub live_causes : (outcome : Outcome) → HasLivedInput outcome before after → IsCounted outcome outcomes.SinkFault before.sink.faults after.sink.faults
+      → (outcome ≡ outcomes.DiskFault → after.disk.faults ≡ raised before.disk.faults) → HasCauses accepted Live outcome before after
+  live_causes outcome l sink disk = record {
+    usage = not_usage outcome l;
+    form = may_live l.bytes l.read outcome l.lived;
+    source = λ whole. not_whole whole;
+    too_long = too_long_lived outcome l;
+    refused = λ whole. not_whole whole;
+    accepted = λ whole. not_whole whole;
+    sink = sink;
+    fault = disk;
+  }
+
+  pub live_made : (outcome : Outcome) → HasLivedInput outcome before after → HasMade accepted Live outcome before after
+  live_made outcome l = record {
+    done = λ _ alone. absurd (let none : true ≡ false = alone in cc none);
+    cut_short = λ _ alone. absurd (let none : true ≡ false = alone in cc none);
+    unwritten = λ whole. not_whole whole;
+    played = λ runs whole. not_whole whole;
+    lived = λ _. l;
+    pointed = λ is. absurd (let none : Live ≡ Point = is in cc none);
+    told = λ tells. absurd (let none : false ≡ true = tells in cc none);
+  }
+
+  pub live_left : (outcome : Outcome) → HasLeft accepted Live outcome before after
+  live_left outcome = record {
+    read = λ whole. not_whole whole;
+    reads = λ whole. not_whole whole;
+    unread = λ no. absurd (no refl);
+    untouched = λ whole. not_whole whole;
+    unaccepted = λ whole. not_whole whole;
+    alone = λ alone. absurd (let none : true ≡ false = alone in cc none);
+  }

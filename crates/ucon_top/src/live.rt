@@ -1,6 +1,6 @@
 //! Runs a document over a journal while its script is still being written.
 
-ghost use Rattle.std.specs.Prelude.{◌≡◌, ◌<◌, None, Some, map, length, IfErr, IfSome, OnOk, List};
+ghost use Rattle.std.specs.Prelude.{◌≡◌, ◌<◌, None, Some, map, true, IfErr, OnOk, List};
 ghost use Rattle.ucon_base.specs.Elements.{Each};
 ghost use Rattle.ucon_disk.specs.Causes.{raised};
 ghost use Rattle.ucon_model.specs.Document.{policy_part};
@@ -14,15 +14,13 @@ ghost use Rattle.ucon_store.specs.Stays.{Stays};
 ghost use Rattle.ucon_store.specs.Whole.{IsFront, whole};
 ghost use Rattle.ucon_client.specs.Answers.{IsAnswered, told_in};
 ghost use Rattle.ucon_outcome.specs.declared.outcome.Outcome.{Outcome as AnOutcome};
-ghost use Rattle.ucon_top.specs.Accepted.{HasSomePolicy};
 ghost use Rattle.ucon_top.specs.Closing.{IsClosedRun, IsOfRun};
-ghost use Rattle.ucon_top.specs.Ending.{IsCounted, MayEnd, status_of};
-ghost use Rattle.ucon_top.specs.LiveEnding.{HasMemory, HasRunLive, IsEndOf, IsOfMemory, IsPolicyRefusal, stopped_by};
+ghost use Rattle.ucon_top.specs.Ending.{IsCounted, status_of};
+ghost use Rattle.ucon_top.specs.LiveEnding.{HasMemory, HasRunLive, IsEndOf, IsOfMemory, IsPolicyRefusal};
 ghost use Rattle.ucon_top.specs.OwnReading.{HasLivedInput};
 ghost use Rattle.ucon_top.specs.Seen.{all_seen};
 ghost use Rattle.ucon_top.specs.Stepping.{IsRunBetween};
 
-use crate::form::Form;
 use crate::serve::end_served;
 use std::alloc::Global;
 use std::sync::Wait;
@@ -53,10 +51,8 @@ pub fn live<
     R: Threads + Wait + Sync,
 >(rt: &R, alloc: Global, input: &mut S, out: &mut K, disk: D, gate: &G) -> Ended<D>
     ensures status { result.status ≡ status_of result.outcome }
-    ensures form { MayEnd Form.Live result.outcome }
     ensures sink { IsCounted result.outcome Outcome.SinkFault (K.seen out.old).faults (K.seen out.new).faults }
     ensures fault { result.outcome ≡ Outcome.DiskFault → (D.seen result.disk).faults ≡ raised (D.seen disk).faults }
-    ensures too_long { result.outcome ≡ Outcome.TooLong → IfSome (S.seen input.old).left (λ bytes. 4194304 < length bytes) }
     ensures lived { HasLivedInput result.outcome (all_seen (S.seen input.old) (K.seen out.old) (D.seen disk))
         (all_seen (S.seen input.new) (K.seen out.new) (D.seen result.disk)) }
 {
@@ -86,7 +82,6 @@ fn run_coming<
 ) -> Ended<D>
     requires unjudged { (document.script.reader.client ≡ None) × (document.script.reader.said ≡ 0) }
     ensures status { result.status ≡ status_of result.outcome }
-    ensures form { MayEnd Form.Live result.outcome }
     ensures sink { IsCounted result.outcome Outcome.SinkFault (K.seen out.old).faults (K.seen out.new).faults }
     ensures fault { result.outcome ≡ Outcome.DiskFault → (D.seen result.disk).faults ≡ raised (D.seen disk).faults }
     ensures lived { (first : S)
@@ -109,9 +104,10 @@ fn run_coming<
 
 /// Reads and checks a policy.
 fn accept_policy(alloc: Global, text: &[u8]) -> Result<(), Refused>
-    ensures ok { OnOk result ((bytes : Bytes) → policy_part bytes ≡ text.now → HasSomePolicy bytes) }
+    ensures ok { OnOk result ((P : PlainPolicy) × (accepted text.now ≡ Some P)) }
     ensures err { IfErr result (λ r. (bytes : Bytes) → policy_part bytes ≡ text.now → IsPolicyRefusal r bytes) }
 {
+    accepted_texts_spell_typed_policies();
     let policy = read_policy(alloc, text)?;
     check(policy)?;
     Ok(())
@@ -136,7 +132,6 @@ fn live_lines<
 ) -> Ended<D>
     requires { store.mark ≡ None }
     ensures status { result.status ≡ status_of result.outcome }
-    ensures form { MayEnd Form.Live result.outcome }
     ensures sink { IsCounted result.outcome Outcome.SinkFault (K.seen out.old).faults (K.seen out.new).faults }
     ensures unwritten { IsOfMemory result.outcome → out.new ≡ out.old }
     ensures run { (P : PlainPolicy) → accepted store.policy ≡ Some P
@@ -159,14 +154,13 @@ fn end_lived<E: Engine, K: Sink, D: Disk>(
     requires all { lived.short ≡ None → Each IsAnswered lived.parts.items }
     requires clients { lived.short ≡ None → Each (λ t. t.line.caller.0 < 64) (told_in lived.parts.items) }
     ensures status { result.status ≡ status_of result.outcome }
-    ensures form { MayEnd Form.Live result.outcome }
     ensures sink { IsCounted result.outcome Outcome.SinkFault (K.seen out.old).faults (K.seen out.new).faults }
     ensures unwritten { IsOfMemory result.outcome → out.new ≡ out.old }
     ensures run { (P : PlainPolicy) (opened : Kept D) (told : List Answered) → Stays D.seen opened lived.store
         → ((H : History) → IsFront P opened H → IsRunBetween own_answers P (whole H opened) (whole H lived.store) told)
         → (lived.short ≡ None → told ≡ told_in lived.parts.items)
         → (over : AnOutcome) × IsOfRun over × IsEndOf over lived.stop result.outcome
-        × IsClosedRun D.seen own_answers P opened (map (λ t. t.line) told) over result.disk
+        × IsClosedRun D.seen own_answers true P opened (map (λ t. t.line) told) over result.disk
         (K.seen out.old).contents (K.seen out.new).contents }
 {
     let Lived {
@@ -200,8 +194,7 @@ fn wanted(short: Option<NoMemory>, stop: &Result<(), ScriptStop>) -> Option<NoMe
 /// How a live run ends, the run over whose store ended so. A fault of the sink stands before one of the disk, and both before what stopped the script.
 fn ended_by(over: Outcome, stop: &Result<(), ScriptStop>) -> Outcome
     requires { HasMemory stop.now }
-    ensures ends { IsEndOf over stop.now result }
-    ensures stopped { over ≡ Outcome.Done → result ≡ stopped_by stop.now }
+    ensures { IsEndOf over stop.now result }
 {
     match (over, stop) {
         (Outcome::Done, Ok(())) => Outcome::Done,
