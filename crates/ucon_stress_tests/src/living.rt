@@ -2,17 +2,18 @@
 
 use crate::runs::{End, over, played, stopping};
 use std::alloc::Global;
-use std::str;
 use std::sync::Wait;
 use std::sync::atomic::{AtomicU64, Ordering};
 use std::test::Fail;
-use std::thread;
 use std::thread::Threads;
+use std::{str, thread};
 use ucon_client::{Gate, OpenGate};
 use ucon_disk::MemDisk;
 use ucon_flow::{Failed, MemSink, MemSource, Source};
 use ucon_top::{Outcome, run};
-use ucon_vectors::{AMENDED_ROWS, LIVE_ROWS, LiveRow, Row, TIMED_ROWS, WORKED_ROWS, document, repeated};
+use ucon_vectors::{
+    AMENDED_ROWS, LIVE_ROWS, LiveRow, Row, TIMED_ROWS, WORKED_ROWS, document, repeated,
+};
 
 /// The most turns that a source waits.
 const TURNS: u32 = 10_000_000;
@@ -266,9 +267,21 @@ fn documents_are_as_long_as_they_may_be(rt: HostRuntime) -> Result<(), Fail> {
     assert!(rt; status == 11 && output.is_empty());
 
     let front = b"right r {}\n%%\nclient 0\nsubject a\n".as_slice();
-    let (status, output) = ended_over(&rt, alloc, front, 65_535, b"#....................\nsubject b")?;
+    let (status, output) = ended_over(
+        &rt,
+        alloc,
+        front,
+        65_535,
+        b"#....................\nsubject b",
+    )?;
     assert!(rt; status == 0 && output.as_slice() == b"0 1 ok\n0 2 ok\n".as_slice());
-    let (status, output) = ended_over(&rt, alloc, front, 65_535, b"#....................\nsubject b\n")?;
+    let (status, output) = ended_over(
+        &rt,
+        alloc,
+        front,
+        65_535,
+        b"#....................\nsubject b\n",
+    )?;
     assert!(rt; status == 11 && output.as_slice() == b"0 1 ok\n".as_slice());
     Ok(())
 }

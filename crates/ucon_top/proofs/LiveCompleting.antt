@@ -45,7 +45,7 @@ module _ (before after : Seen) where
       let size : length l.bytes ≡ length l.read + length l.rest = ap (λ (b : Bytes). length b) l.begins ∙ length-append l.read l.rest in
       if_told before.source.left l.bytes (λ bytes. 4194304 < length bytes) l.are (omega (arith, read, size))
 
--- ---- nothing hinders it
+  -- ---- nothing hinders it
 
   script_fault : (bytes : Bytes) (f : DocFault) → IsAccepted bytes → IsRefusal (document_read accepted bytes) f → IsScriptFault f bytes
   script_fault bytes (faults.NoMemory e) a refusal = absurd refusal

@@ -51,3 +51,20 @@ source_counted (Err (stops.Refused f)) before now failed works = ((λ is. absurd
 source_counted (Err stops.SourceFault) before now failed works = ((λ is. failed refl), (λ other. absurd (other refl)))
 source_counted (Err stops.TooLong) before now failed works = ((λ is. absurd (cc is)), (λ other. works (λ is. cc is)))
 source_counted (Err (stops.NoMemory m)) before now failed works = ((λ is. absurd (cc is)), (λ other. works (λ is. cc is)))
+
+-- no disk stops a script
+not_disk : (stop : Result (Unit {0}) ScriptStop) → stopped_by stop ≢ outcomes.DiskFault
+not_disk (Ok u) is = cc is
+not_disk (Err (stops.Refused f)) is = cc is
+not_disk (Err stops.SourceFault) is = cc is
+not_disk (Err stops.TooLong) is = cc is
+not_disk (Err (stops.NoMemory m)) is = cc is
+
+-- it ends by a disk fault only if the run over the store does
+pub disk_end : (over : Outcome) (stop : Result (Unit {0}) ScriptStop) (outcome : Outcome) → IsOfRun over → IsEndOf over stop outcome → outcome ≡ outcomes.DiskFault
+    → over ≡ outcomes.DiskFault
+disk_end outcomes.Done stop outcome of ends is = absurd (not_disk stop (subst (λ (o : Outcome). o ≡ outcomes.DiskFault) ends.1 is))
+disk_end outcomes.DiskFault stop outcome of ends is = refl
+disk_end outcomes.SinkFault stop outcome of ends is = absurd (cc (ends.1, is))
+disk_end (outcomes.NoMemory m) stop outcome of ends is = absurd (cc (ends, is))
+disk_end over stop outcome of ends is = absurd (cc (of.0, of.1))

@@ -5,6 +5,7 @@ use Rattle.std.specs.Io.KnownBytes.{Consumes, IsAtEnd}
 use Rattle.std.proofs.KnownBytes.{Consumes-trans}
 use Rattle.ucon_base.specs.declared.no_memory.NoMemory.{NoMemory as Want}
 use Rattle.ucon_flow.specs.Seen.{SinkSeen, SourceSeen}
+use Rattle.ucon_disk.specs.Causes.{raised}
 use Rattle.ucon_disk.specs.Seen.{DiskSeen}
 use Rattle.ucon_model.specs.declared.command.Entry.{Entry}
 use Rattle.ucon_model.specs.Document.{ScriptLine, entries_of, lines_of, policy_part, script_lines}
@@ -29,7 +30,8 @@ use Rattle.ucon_top.specs.Ending.{IsCounted}
 use Rattle.ucon_top.specs.LiveEnding.{HasMemory, HasRunLive, IsEndOf, IsLiveRun, IsOfMemory, IsUnbegunRun, stopped_by}
 use Rattle.ucon_top.specs.OwnReading.{HasLived, HasLivedInput, IsFedTo}
 use Rattle.ucon_top.specs.Seen.{Seen, all_seen}
-use Rattle.ucon_top.proofs.Playing.{HasMoments, IsOpened, RunEnds, over_store}
+use Rattle.ucon_top.proofs.LiveEnds.{disk_end}
+use Rattle.ucon_top.proofs.Playing.{HasMoments, IsOpened, RunEnds, over_store, run_raised}
 
 -- ---- what was read of an input
 
@@ -271,3 +273,17 @@ module _ {S D : Type 0} (source : S → SourceSeen) (seen : D → DiskSeen) (mom
 
   pub run_lived : HasRunLive source seen P store script judged mid last outcome now was.contents written.contents → HasLivedInput outcome Before After
   run_lived r = ⊎_elim live_run unbegun_run r
+
+-- a live run that met a disk fault raised the disk's count
+module _ {S D : Type 0} (source : S → SourceSeen) (seen : D → DiskSeen) (P : PlainPolicy) (disk : D) (store : Kept D) (unmarked : store.mark ≡ None)
+    (unfailed : (seen store.disk).faults ≡ (seen disk).faults) (script judged : ComingScript) (mid last : S) (now : D) (outcome : Outcome) (was written : Option Bytes) where
+  raised_by : (over : Outcome) (lines : List Entry) → over ≡ outcomes.DiskFault → IsClosedRun seen own_answers true P store lines over now was written
+      → (seen now).faults ≡ raised (seen disk).faults
+  raised_by over lines is run = run_raised seen own_answers true P disk store unmarked unfailed lines now was written
+      (subst (λ (o : Outcome). IsClosedRun seen own_answers true P store lines o now was written) is run)
+
+  pub live_raised : HasRunLive source seen P store script judged mid last outcome now was written → outcome ≡ outcomes.DiskFault
+      → (seen now).faults ≡ raised (seen disk).faults
+  live_raised r is = ⊎_elim
+      (λ l. raised_by l.over (by_client (entries_of l.lines)) (disk_end l.over l.stop outcome l.of_run l.ends is) l.run)
+      (λ u. absurd (subst IsOfMemory is u.of_memory)) r

@@ -51,10 +51,10 @@ module _ (before after : Seen) (unwritten : after.sink ≡ before.sink) (same : 
       → (fault ≢ reads.SourceFault → after.source.faults ≡ before.source.faults) → HasLivedInput (by_reading fault) before after
   unread_lived reads.SourceFault front long undivided failed works = let u = undivided refl in
       over_read outcomes.SourceFault u.0 u.1 (λ bytes.
-      inl (u.2, record { unwritten = unwritten; source = ((λ _. failed refl), λ other. absurd (other refl)) }, same))
+      inl (u.2, (record { unwritten = unwritten; source = ((λ _. failed refl), λ other. absurd (other refl)) }, same)))
   unread_lived reads.TooLong front long undivided failed works = let l = long refl in
       over_read outcomes.TooLong l.0 l.1 (λ bytes.
-      inl (l.2, untold before after outcomes.TooLong (λ is. cc is) unwritten (works (λ is. cc is)), same))
+      inl (l.2, (untold before after outcomes.TooLong (λ is. cc is) unwritten (works (λ is. cc is)), same)))
   unread_lived (reads.NoMemory e) front long undivided failed works =
       over_read (outcomes.NoMemory e) front.0 front.1 (λ bytes.
       inl (untold before after (outcomes.NoMemory e) (λ is. cc is) unwritten (works (λ is. cc is)), same))
@@ -86,7 +86,7 @@ module _ {S D : Type 0} (source : S → SourceSeen) (seen : D → DiskSeen) (tex
 
   pub refused_lived : (r : Refused) → now ≡ disk → ((bytes : Bytes) → policy_part bytes ≡ text → IsPolicyRefusal r bytes) → HasLivedInput (outcome_of r) Before After
   refused_lived (refusals.Policy f) same refused =
-      over_part (outcomes.Policy f) (λ bytes part. (refused bytes part, silent (outcomes.Policy f) (λ is. cc is), same_disk seen disk now same))
+      over_part (outcomes.Policy f) (λ bytes part. (refused bytes part, (silent (outcomes.Policy f) (λ is. cc is), same_disk seen disk now same)))
   refused_lived (refusals.Script f) same refused = over_part (outcomes.Script f) (λ bytes part. absurd (refused bytes part))
   refused_lived (refusals.NoMemory e) same refused =
       over_part (outcomes.NoMemory e) (λ bytes part. inl (silent (outcomes.NoMemory e) (λ is. cc is), same_disk seen disk now same))

@@ -16,10 +16,13 @@ use Rattle.ucon_top.proofs.live.end_lived.Goals as goal
 pub returns-in-Some-clause-run : goal.returns-in-Some-clause-run
 returns-in-Some-clause-run g c = λ P opened told stays run whole.
     let before = (g.K.Sink.seen c.args.out.now).contents in
-    let over : Outcome = outcomes.NoMemory c.in-Some.want in
-    (over, (refl, refl), c.by.ensures.outcome,
-    closed_untold g.D.Disk.seen own_answers P before before opened c.args.lived.store told
-    c.by.result.disk stays run (c.by.ensures.disk ∙ c.close.ensures.disk) over tt (λ answers. answers))
+    let over : Outcome = outcomes.NoMemory c.in-Some.want in (
+      over,
+      (refl, refl),
+      c.by.ensures.outcome,
+      closed_untold g.D.Disk.seen own_answers P before before opened c.args.lived.store told
+          c.by.result.disk stays run (c.by.ensures.disk ∙ c.close.ensures.disk) over tt (λ answers. answers),
+    )
 
 pub returns-clause-run : goal.returns-clause-run
 returns-clause-run g c = λ P opened told stays run whole.
@@ -34,10 +37,12 @@ returns-clause-run g c = λ P opened told stays run whole.
     let closed : IsClosedRun g.D.Disk.seen own_answers true P opened (map (λ (t : Answered). t.line) told) ended.result.outcome ended.result.disk before now =
     subst (λ (ts : List Answered). IsClosedRun g.D.Disk.seen own_answers true P opened (map (λ (t : Answered). t.line) ts) ended.result.outcome ended.result.disk before now) (sym is)
     (ended.ensures.run P opened stays
-    (λ H front. subst (λ (ts : List Answered). IsRunBetween own_answers P (whole_of H opened) (whole_of H store) ts) is (run H front))) in
-    (ended.result.outcome, ended.ensures.of_run,
-    subst (λ (o : Outcome). IsEndOf ended.result.outcome stop o) (sym c.by-2.ensures.outcome) c.ended_by.ensures,
-    subst (λ (d : g.row.D.Denot). IsClosedRun g.D.Disk.seen own_answers true P opened (map (λ (t : Answered). t.line) told) ended.result.outcome d before now) (sym c.by-2.ensures.disk) closed)
+    (λ H front. subst (λ (ts : List Answered). IsRunBetween own_answers P (whole_of H opened) (whole_of H store) ts) is (run H front))) in (
+      ended.result.outcome,
+      ended.ensures.of_run,
+      subst (λ (o : Outcome). IsEndOf ended.result.outcome stop o) (sym c.by-2.ensures.outcome) c.ended_by.ensures,
+      subst (λ (d : g.row.D.Denot). IsClosedRun g.D.Disk.seen own_answers true P opened (map (λ (t : Answered). t.line) told) ended.result.outcome d before now) (sym c.by-2.ensures.disk) closed,
+    )
 
 pub returns-clause-sink : goal.returns-clause-sink
 returns-clause-sink g c =

@@ -13,14 +13,6 @@ use Rattle.ucon_top.proofs.LiveEnds.{source_counted}
 use Rattle.ucon_top.proofs.Serving.{closed_at_once}
 use Rattle.ucon_top.proofs.live.live_lines.Goals as goal
 
-pub end_lived-requires-all : goal.end_lived-requires-all
-end_lived-requires-all g c = λ none. (c.in-Ok.ensures.lived.are_lived.whole none).0
-
-pub end_lived-requires-clients : goal.end_lived-requires-clients
-end_lived-requires-clients g c = λ none.
-    let lived = c.in-Ok.ensures.lived.are_lived in
-    subst (λ (told : List Answered). Each (λ t. t.line.caller.0 < 64) told) (lived.whole none).1 lived.clients
-
 pub returns-in-Ok-clause-run : goal.returns-in-Ok-clause-run
 returns-in-Ok-clause-run g c = λ P accepts.
     let store = c.args.store in
@@ -46,8 +38,8 @@ returns-in-Ok-clause-run g c = λ P accepts.
       ends = e.2;
     })
 
-pub returns-clause-run : goal.returns-clause-run
-returns-clause-run g c = λ P accepts.
+pub returns-in-Err-clause-run : goal.returns-in-Err-clause-run
+returns-in-Err-clause-run g c = λ P accepts.
     let law = c.runs_over_a_store_are_legal.ensures in
     let laws : AreLegal = record { legal = law.legal; made = law.made; failed = law.failed } in
     let was = (g.K.Sink.seen c.args.out.now).contents in
