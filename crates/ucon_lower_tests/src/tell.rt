@@ -1,5 +1,6 @@
 //! A keeper over a disk, and what was told beside what a crash leaves.
-ghost use Rattle.std.specs.Prelude.{◌≡◌, ◌≤◌, ◌++◌, ℕ, List, None, length, codes, OnOk};
+ghost use Rattle.std.specs.Prelude.{◌≡◌, ◌≤◌, ◌+◌, ◌++◌, ◌==◌, ℕ, List, None, length, codes, position, IfSome, OnOk};
+ghost use Rattle.ucon_flow.specs.Lines.{HasNewline, newline};
 ghost use Rattle.ucon_lower_tests.specs.Keeping.{BeginsWith, IsToldOf, Keeps, KeepsOn, at_least, keeps_again, keeps_still, no_less};
 
 use std::alloc::Global;
@@ -21,6 +22,26 @@ fn put<D: Disk>(disk: &mut D, at: u64, bytes: &[u8]) -> Result<(), ucon_disk::Fa
     disk.write_at(at, bytes)?;
     disk.sync()?;
     Ok(())
+}
+
+/// Where the first newline stands.
+fn first_newline(bytes: &[u8]) -> Option<usize>
+    ensures place { result ≡ position (λ b. b == 10) bytes.now }
+    ensures within { IfSome result (λ at. at + 1 ≤ length bytes.now) }
+{
+    bytes.iter().position(|byte| *byte == b'\n')
+}
+
+/// How many bytes the first line has, with its newline.
+fn line_len(came: &[u8]) -> usize
+    requires { HasNewline came.now }
+    ensures len { result ≡ newline came.now + 1 }
+    ensures within { result ≤ length came.now }
+{
+    match first_newline(came) {
+        Some(at) => at + 1,
+        None => unreachable!(),
+    }
 }
 
 /// A keeper that puts each line on a disk behind the others before it answers `kept`, or answers `lost`.
@@ -63,15 +84,13 @@ impl<D: Disk + Drop> Keeper for Scribe<D> {
         _limit: usize,
         text: &mut Vec<u8>,
     ) -> Result<usize, NoMemory> {
-        let len = match came.iter().position(|byte| *byte == b'\n') {
-            Some(at) => at + 1,
-            None => unreachable!(),
-        };
-        self.kept.reserve(len)?;
+        let len = line_len(came);
+        let mut kept = self.kept.to_vec(alloc)?;
+        kept.extend_from_slice(&came[..len])?;
         text.reserve(5)?;
         let reply = match put(&mut self.disk, self.kept.len() as u64, &came[..len]) {
             Ok(()) => {
-                self.kept.extend_from_slice(&came[..len]).unwrap();
+                self.kept = kept;
                 b"kept\n"
             }
             Err(_) => b"lost\n",

@@ -1,26 +1,10 @@
-use Rattle.std.proofs.Common.{inl, inr, refl, rules}
-use Rattle.std.specs.Prelude.{OnErr, Result, Ok, Err, codes}
-use Rattle.ucon_lower_tests.specs.Keeping.{kept_line, lost_line}
+use Rattle.std.proofs.Common.{inl, inr, rules}
+use Rattle.ucon_lower_tests.proofs.Scribing.{says}
 use Rattle.ucon_lower_tests.proofs.tell.ScribeKeeper.answer.Goals as goal
-
-always_err : {T E : Type 0} (r : Result T E) (A : Type 0) → A → OnErr r A
-always_err (Ok v) A a = tt
-always_err (Err e) A a = a
-
-pub returns-in-Ok-clause-reply : goal.returns-in-Ok-clause-reply
-returns-in-Ok-clause-reply g c = (codes "kept\n", kept_line, inl (refl, search rules), search rules)
+use Rattle.ucon_lower_tests.proofs.tell.ScribeKeeper.answer.Goals.{in-Ok, in-Err}
 
 pub returns-clause-reply : goal.returns-clause-reply
-returns-clause-reply g c = (codes "lost\n", lost_line, inr (refl, refl), search rules)
-
-pub returns-in_err-extend_from_slice-in-Ok-clause-failed : goal.returns-in_err-extend_from_slice-in-Ok-clause-failed
-returns-in_err-extend_from_slice-in-Ok-clause-failed g c =
-    always_err c.from_residual-in_err-extend_from_slice-in-Ok.result _ (inr (codes "lost\n", inr (refl, search rules)))
-
-pub returns-in_err-extend_from_slice-in-Ok-2-clause-failed : goal.returns-in_err-extend_from_slice-in-Ok-2-clause-failed
-returns-in_err-extend_from_slice-in-Ok-2-clause-failed g c =
-    always_err c.from_residual-in_err-extend_from_slice-in-Ok-2.result _ (inr (codes "kept\n", inl (refl, search rules)))
-
-pub returns-in_err-extend_from_slice-in-Err-clause-failed : goal.returns-in_err-extend_from_slice-in-Err-clause-failed
-returns-in_err-extend_from_slice-in-Err-clause-failed g c =
-    always_err c.from_residual-in_err-extend_from_slice-in-Err.result _ (inr (codes "lost\n", inr (refl, refl)))
+returns-clause-reply g c =
+    says c.args._limit c.line_len-len.result c.args.came.now c.args.text.now.items c.extend_from_slice-2.new.self.items c.match-put.reply.now
+    c.args.self.now.kept.items c.match-put.self.kept.items c.requires.whole c.requires.fits c.line_len-len.ensures.len (search rules)
+    (elim c.match-put.branch [ in-Ok w ↦ inl (search rules, search rules) | in-Err w ↦ inr (search rules, search rules) ])
