@@ -293,14 +293,22 @@ fn what_was_told_of_batches_is_found(rt: HostRuntime) -> Result<(), Fail> {
     for calls in 0..24 {
         let disk = MemDisk::new(alloc, Vec::new(alloc), Vec::new(alloc), Some(calls));
         let end = arrived(alloc, PolicyFrom::Input, BATCH, 65_536, disk)?;
-        let least = if end.told.as_slice() == TOLD_OF_A_BATCH[2] { 2 } else { 0 };
+        let least = if end.told.as_slice() == TOLD_OF_A_BATCH[2] {
+            2
+        } else {
+            0
+        };
         for len in 0..80 {
             for fill in [0, 1, 255] {
                 if let Some(image) = end.disk.image(len, &[fill; 256])? {
                     let disk = MemDisk::new(alloc, image, Vec::new(alloc), None);
                     let again = held(alloc, PolicyFrom::Input, b"right r {}\n%%\n", disk)?;
                     let found = again.told.as_slice();
-                    assert!(rt; found == b"- 2 ready\n".as_slice() || least == 0 && found == b"- 0 ready\n".as_slice(), "{calls} {len} {fill}");
+                    assert!(rt;
+                        found == b"- 2 ready\n".as_slice()
+                            || least == 0 && found == b"- 0 ready\n".as_slice(),
+                        "{calls} {len} {fill}"
+                    );
                 }
             }
         }
