@@ -1,5 +1,7 @@
 //! Documents that are run while they are still being written.
 
+ghost use Rattle.std.specs.Prelude.{◌≤◌, length};
+
 use crate::runs::{End, over, played, stopping};
 use std::alloc::Global;
 use std::sync::Wait;
@@ -55,7 +57,9 @@ struct LineByLine<'a> {
 }
 
 /// Puts the front of a text, of so many bytes at the most, into a buffer. What is left, and how many bytes were put.
-fn put_front<'a>(text: &'a [u8], most: usize, buf: &mut [u8]) -> (&'a [u8], usize) {
+fn put_front<'a>(text: &'a [u8], most: usize, buf: &mut [u8]) -> (&'a [u8], usize)
+    ensures { result.1 ≤ length buf.old }
+{
     let count = text.len().min(buf.len()).min(most);
     buf[..count].copy_from_slice(&text[..count]);
     (&text[count..], count)
