@@ -237,20 +237,26 @@ fn behind_a_disk_fault_nothing_more_is_done(rt: HostRuntime) -> Result<(), Fail>
     Ok(())
 }
 
-/// Lines that arrive together are told what each alone would be, and leave the same file, by fewer calls of the disk.
+/// Whether lines that arrive together are told what each alone would be, and leave the same file, by fewer calls of the disk.
+fn are_told_the_same(alloc: Global, input: &[u8]) -> Result<bool, Fail> {
+    let disk = MemDisk::new(alloc, Vec::new(alloc), Vec::new(alloc), None);
+    let alone = arrived(alloc, PolicyFrom::Input, input, 1, disk)?;
+    let disk = MemDisk::new(alloc, Vec::new(alloc), Vec::new(alloc), None);
+    let together = arrived(alloc, PolicyFrom::Input, input, 65_536, disk)?;
+    Ok(
+        together.status == 0
+            && together.told == alone.told
+            && together.disk.contents() == alone.disk.contents()
+            && together.disk.moment() < alone.disk.moment(),
+    )
+}
+
 #[test]
 fn lines_that_arrive_together_are_told_the_same(rt: HostRuntime) -> Result<(), Fail> {
     let alloc = rt.alloc();
-    for input in [INPUT, &ticks(alloc, 4_100)?] {
-        let disk = MemDisk::new(alloc, Vec::new(alloc), Vec::new(alloc), None);
-        let alone = arrived(alloc, PolicyFrom::Input, input, 1, disk)?;
-        let disk = MemDisk::new(alloc, Vec::new(alloc), Vec::new(alloc), None);
-        let together = arrived(alloc, PolicyFrom::Input, input, 65_536, disk)?;
-        assert!(rt; together.status == 0);
-        assert!(rt; together.told == alone.told);
-        assert!(rt; together.disk.contents() == alone.disk.contents());
-        assert!(rt; together.disk.moment() < alone.disk.moment());
-    }
+    assert!(rt; are_told_the_same(alloc, INPUT)?);
+    let many = ticks(alloc, 4_100)?;
+    assert!(rt; are_told_the_same(alloc, &many)?);
     Ok(())
 }
 
