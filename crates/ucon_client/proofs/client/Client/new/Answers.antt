@@ -13,8 +13,8 @@ returns-clause-serves g c = (
     seated = c.requires.seat.0;
     number = c.requires.seat.1;
     part = c.requires.part.0;
-    right = λ P G is front.
-        starts_right P G c.args.part c.args.turn.now.opened.store c.args.seat.seen c.requires.unmarked c.requires.seen c.requires.part.1;
+    right = λ says G from.
+        starts_right says G c.args.part c.args.turn.now.opened.store c.args.seat.seen c.requires.unmarked c.requires.seen c.requires.part.1;
   },
   elim c.match-reader.branch [
     | in-Some w ↦ (
