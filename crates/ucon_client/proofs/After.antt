@@ -1,9 +1,9 @@
 -- A run by what is said behind a history, as a legal run: behind a history, or after a trace.
-use Rattle.std.proofs.Common.{◌≡◌, ℕ, zero, suc, ◌+◌, ◌-◌, ◌≤◌, Option, Some, List, [], ◌∷◌, ◌++◌, map, length, take, drop, append_assoc, refl, sym, ap, ◌∙◌, subst, arith}
+use Rattle.std.proofs.Common.{◌≡◌, ℕ, zero, suc, ◌+◌, ◌-◌, Some, List, [], ◌∷◌, ◌++◌, map, length, take, drop, append_assoc, refl, sym, ap, ◌∙◌, subst, arith}
 use Rattle.std.specs.Prelude.{IsTrue}
 use Rattle.std.proofs.Math.Seq.{drop-append_seam}
-use Rattle.std.proofs.lemmas.List.{append-nil, length-append, take-append-le, take_at}
-use Rattle.ucon_base.specs.Elements.{Each, each_map}
+use Rattle.std.proofs.lemmas.List.{length-append}
+use Rattle.ucon_base.specs.Elements.{each_map}
 use Rattle.ucon_model.specs.Action.{Trace}
 use Rattle.ucon_model.specs.Block.{reply}
 use Rattle.ucon_model.specs.declared.command.Caller.{Caller}
@@ -12,7 +12,7 @@ use Rattle.ucon_model.specs.declared.command.Command.TheVariants.{Look}
 use Rattle.ucon_model.specs.declared.command.Entry.{Entry}
 use Rattle.ucon_model.specs.History.{History, changes, said, trace, trace_from}
 use Rattle.ucon_client.specs.LegalAfter.{IsLegalRunAfter, IsSaidAfter}
-use Rattle.ucon_model.specs.LegalRun.{Answer, Answered, AreNumberedFrom, IsLegalRun, IsSaid, by_place, disk_fault, history_made, is_disk_fault, no_memory, own_answers, placed, recorded, stands_on, stopped}
+use Rattle.ucon_model.specs.LegalRun.{Answer, Answered, IsLegalRun, IsSaid, by_place, disk_fault, history_made, is_disk_fault, no_memory, own_answers, placed, recorded, stands_on, stopped}
 use Rattle.ucon_model.specs.Plain.{PlainPolicy, PlainReply}
 use Rattle.ucon_store.specs.Kept.{Kept}
 use Rattle.ucon_store.specs.Starts.{IsStart}

@@ -1,5 +1,5 @@
 -- Legal runs after a trace: also where no history is known that leads to it.
-use Rattle.std.specs.Prelude.{◌≡◌, ℕ, ◌+◌, ◌-◌, ◌≤◌, Bool, IsTrue, List, [], ◌∷◌, length, take, count_by, ⊤}
+use Rattle.std.specs.Prelude.{◌≡◌, ℕ, ◌+◌, ◌-◌, ◌≤◌, Bool, IsTrue, List, [], length, take, count_by, ⊤}
 use Rattle.std.specs.List.{list_any}
 use Rattle.ucon_base.specs.Elements.{Each}
 use Rattle.ucon_model.specs.Action.{Trace}
