@@ -78,6 +78,27 @@ pub run_after_steps : {D : Type 0} (P : PlainPolicy) (T : Trace) (old new : Kept
     → IsRunAfter in_text_order false P T old new told
 run_after_steps P T old new told steps = record { answers = steps.serial; failed = steps.mark }
 
+-- that there was no memory for any line is a run after each trace
+legal_wanting : AreLegal → (P : PlainPolicy) (sees : Caller → Caller → Bool) (T : Trace) (n : ℕ) (lines : List Entry)
+    → IsLegalRunAfter P sees T n (map wants_memory lines)
+legal_wanting laws P sees T n lines =
+    let told : List Answered = map wants_memory lines in
+    let legal = laws.legal P [] told [] None (leads_nowhere P [] lines) in record {
+      places = subst (λ (es : List (ℕ × Entry)). AreNumberedFrom n (by_place es)) (sym (none_recorded lines)) tt;
+      replies = nothing_said P T n (history_made [] told) lines;
+      order = fewer_seen sees told legal.order;
+      causes = record {
+        once = legal.causes.once;
+        would_change = nothing_fails P (trace_from P T (history_made [] told)) lines;
+        by_fault = legal.causes.by_fault;
+      };
+    }
+
+run_wanting : AreLegal → (P : PlainPolicy) (sees : Caller → Caller → Bool) (threads : Bool) (T : Trace) (n : ℕ) (lines : List Entry)
+    → AreRunAfter sees threads P T n (map wants_memory lines)
+run_wanting laws P sees true T n lines = legal_wanting laws P sees T n lines
+run_wanting laws P sees false T n lines = serial_wanting P T n lines
+
 module _ {D : Type 0} (laws : AreLegal) (P : PlainPolicy) where
   -- steps in the order of the text
   pub run_of_steps : (old new : Kept D) (lines : List Entry) (told : List Answered) → HaveSteps P old new lines told → IsRunBetween in_text_order P old new told
@@ -86,25 +107,6 @@ module _ {D : Type 0} (laws : AreLegal) (P : PlainPolicy) where
     made = laws.made P old.entries told new.entries steps.failed steps.leads;
     failed = steps.mark ∙ ap marked (sym (laws.failed P old.entries told new.entries steps.failed steps.leads));
   }
-
-  legal_wanting : (sees : Caller → Caller → Bool) (T : Trace) (n : ℕ) (lines : List Entry) → IsLegalRunAfter P sees T n (map wants_memory lines)
-  legal_wanting sees T n lines =
-      let told : List Answered = map wants_memory lines in
-      let legal = laws.legal P [] told [] None (leads_nowhere P [] lines) in record {
-        places = subst (λ (es : List (ℕ × Entry)). AreNumberedFrom n (by_place es)) (sym (none_recorded lines)) tt;
-        replies = nothing_said P T n (history_made [] told) lines;
-        order = fewer_seen sees told legal.order;
-        causes = record {
-          once = legal.causes.once;
-          would_change = nothing_fails P (trace_from P T (history_made [] told)) lines;
-          by_fault = legal.causes.by_fault;
-        };
-      }
-
-  run_wanting : (sees : Caller → Caller → Bool) (threads : Bool) (T : Trace) (n : ℕ) (lines : List Entry)
-      → AreRunAfter sees threads P T n (map wants_memory lines)
-  run_wanting sees true T n lines = legal_wanting sees T n lines
-  run_wanting sees false T n lines = serial_wanting P T n lines
 
   -- where there is no room for the answers, there was no memory for any line
   unanswered_run : (sees : Caller → Caller → Bool) (store : Kept D) (lines : List Entry) → store.mark ≡ None
@@ -128,7 +130,7 @@ module _ {D : Type 0} (laws : AreLegal) (P : PlainPolicy) where
     told = map wants_memory lines;
     lines_are = lines_wanting lines;
     after = λ T starts. record {
-      answers = run_wanting sees threads (trace_behind P T store) (entries_of_all store) lines;
+      answers = run_wanting laws P sees threads (trace_behind P T store) (entries_of_all store) lines;
       failed = none ∙ ap marked (sym (none_failed lines));
     };
     run = λ G front. unanswered_run sees (whole G store) lines none;

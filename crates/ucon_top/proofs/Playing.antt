@@ -14,7 +14,7 @@ use Rattle.ucon_model.specs.Document.{ScriptLine, document_read, entries_of, pol
 use Rattle.ucon_model.specs.Action.{Trace}
 use Rattle.ucon_model.specs.History.{History, trace_from}
 use Rattle.ucon_model.specs.Plain.{Bytes, PlainPolicy}
-use Rattle.ucon_model.specs.LegalRun.{Answered, IsLegalRun, history_made}
+use Rattle.ucon_model.specs.LegalRun.{Answered, history_made}
 use Rattle.ucon_model.specs.StoredRun.{failed_line}
 use Rattle.ucon_syntax.specs.Policies.{accepted}
 use Rattle.ucon_store.specs.Found.{IsFoundAs, IsFoundMarked, IsFoundWith, found_with}
@@ -28,7 +28,7 @@ use Rattle.ucon_store.specs.Opening.{IsSeenAs, Opens}
 use Rattle.ucon_store.specs.Points.{IsOld, SamePlaces, has_points}
 use Rattle.ucon_store.specs.Starts.{BeginsAt, IsStart}
 use Rattle.ucon_store.specs.Stays.{IsFoundBetween}
-use Rattle.ucon_store.specs.Whole.{GoesOnFrom, IsFounded, IsFront, found_founded, trace_behind, whole}
+use Rattle.ucon_store.specs.Whole.{GoesOnFrom, IsFounded, found_founded, trace_behind, whole}
 use Rattle.ucon_top.specs.declared.form.Form.{Form}
 use Rattle.ucon_outcome.specs.declared.outcome.Outcome.{Outcome}
 use Rattle.ucon_outcome.specs.declared.outcome.Outcome.TheVariants as outcomes
@@ -244,7 +244,7 @@ module _ {D : Type 0} (seen : D → DiskSeen) where
       module _ (given : List Answered → Type 0)
           (answers : AreAnswered (sees_by form) (traits form).threads P store closed Lines given)
           (caused : (T : Trace) (n : ℕ) (told : List Answered) → AreRunAfter (sees_by form) (traits form).threads P T n told
-              → closed.mark ≡ marked (failed_line told) → causes told)
+          → closed.mark ≡ marked (failed_line told) → causes told)
           (makes : (told : List Answered) → given told → so Lines told) where
         behind : (file : Bytes) (opening : History) → (seen disk).contents ≡ Some file → IsFoundAs text file opening
             → (length opening ≡ entries_of_all store) × IsPlayed (sees_by form) text P file opening (seen disk) (seen now) answers.told
@@ -258,8 +258,8 @@ module _ {D : Type 0} (seen : D → DiskSeen) where
               played file is G goes.founded found_so (sees_by form) answers.told (answers.run G goes.founded.front),
             )
 
-        there : IsRunAfter (sees_by form) (traits form).threads P opened.begun store closed answers.told
-        there = answers.after opened.begun opened.starts
+        answered_there : IsRunAfter (sees_by form) (traits form).threads P opened.begun store closed answers.told
+        answered_there = answers.after opened.begun opened.starts
 
         pub run_over : IsRunOver form bytes (seen disk) (seen now) causes so
         run_over = record {
@@ -275,8 +275,8 @@ module _ {D : Type 0} (seen : D → DiskSeen) where
           told = answers.told;
           lines_are = answers.lines_are;
           is_so = makes answers.told answers.is_so;
-          caused = caused (trace_behind P opened.begun store) (entries_of_all store) answers.told there.answers there.failed;
-          after = answered_from form answers.told there;
+          caused = caused (trace_behind P opened.begun store) (entries_of_all store) answers.told answered_there.answers answered_there.failed;
+          after = answered_from form answers.told answered_there;
           run = subst (λ (t : Bytes). (file : Bytes) (opening : History) → (seen disk).contents ≡ Some file → IsFoundAs t file opening
               → (length opening ≡ entries_of_all store) × IsPlayed (sees_by form) t P file opening (seen disk) (seen now) answers.told)
               is_text behind;
@@ -317,7 +317,7 @@ module _ {D : Type 0} (seen : D → DiskSeen) where
         over (λ told. (failed_line told ≡ None) × IsUnfaulted told) (HaveOutput (Appends was.contents written.contents))
             (HaveOutput (Appends was.contents written.contents) Entries) e
             (λ T n told run marks.
-                let none = no_line by told marks in (none, unfaulted (sees_by form) (traits form).threads P T n told run none))
+            let none = no_line by told marks in (none, unfaulted (sees_by form) (traits form).threads P T n told run none))
             (λ told output. output),
         unfailed by,
       )
