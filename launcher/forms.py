@@ -42,6 +42,11 @@ KNOWN = [
         "./ucon board door.journal < door.ucon",
     ),
     Form(
+        "live JOURNAL",
+        "does as serve while the document is still being written: each line is answered once it is there, and printed at the end",
+        "./ucon live door.journal < door.ucon",
+    ),
+    Form(
         "point JOURNAL [--journal-policy]",
         "adds a checkpoint to a journal, and runs no line of the script",
         "./ucon point door.journal < door.ucon",
@@ -199,8 +204,8 @@ With --script FILE no document comes on standard input: FILE has the script alon
 the journal began with. With --journal-policy it is that policy, and no script.
 WORD --help tells of one word. An input that ends before its line %% begins no journal: it may be the front of a document.
 A journal has one writer at a time, and what was told of it stands beside it, in JOURNAL.told. Where it lacks some of that, play,
-serve, point, converse and explain are refused before anything is written; --accept-loss behind JOURNAL goes on with what is there, as does
-amend with it behind FILE. What an opening cuts off behind the last whole record is kept in JOURNAL.torn.
+serve, board, live, point, converse and explain are refused before anything is written; --accept-loss behind JOURNAL goes on with
+what is there, as does amend with it behind FILE. What an opening cuts off behind the last whole record is kept in JOURNAL.torn.
 UCON_PROGRAM=FILE runs that program in place of the proved one, and UCON_CONVERSE=FILE that one for converse.
 """
 

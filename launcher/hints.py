@@ -8,7 +8,7 @@ from launcher.program import Ended
 from launcher.source import Document
 
 # The forms that run a script's lines.
-RUN_LINES = ("trial", "play", "serve", "board")
+RUN_LINES = ("trial", "play", "serve", "board", "live")
 OTHER_POLICY = re.compile(rb"ucon: other policy at (\d+)\n")
 
 

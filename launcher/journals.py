@@ -11,7 +11,7 @@ from launcher.source import Document, Span, policy_end, shown
 MAGICS = (b"UCONJR01", b"UCONJR02")
 # Where the policy's text begins, behind the magic, a gate and a length.
 POLICY_AT = 13
-FORMS = ("play", "serve", "board", "point", "converse", "audit", "report", "explain")
+FORMS = ("play", "serve", "board", "live", "point", "converse", "audit", "report", "explain")
 # How much of a file is looked at, and of a line shown.
 ENOUGH, WIDTH = 1 << 17, 100
 

@@ -21,12 +21,14 @@ from launcher.seal import EMPTY, Front
 from launcher.told import ARE, LOST, WERE, Told, meet, near, path_of, read_told, told_of
 
 # The forms that open the journal that is their second word, and write it.
-WRITES = ("play", "serve", "board", "point", "converse", "explain")
-# The one that makes no step.
-EXPLAINS = "explain"
+WRITES = ("play", "serve", "board", "live", "point", "converse", "explain")
+# The one that makes no step, and the one whose document may still be written.
+EXPLAINS, LIVE = "explain", "live"
 ACCEPT = "--accept-loss"
 # The statuses behind which nothing of the journal was written, and nobody was told a place (docs/errors.md).
 UNTOUCHED = (1, 2, 3, 4, 7, 8, 10, 11)
+# Those of them behind which `live` may have answered what came before.
+MET_LATE = (3, 4, 11)
 DISK_FAULT = 6
 # Behind which word that stands.
 BEHIND_JOURNAL, BEHIND_FILE = "the journal's name", "the policy's file"
@@ -59,7 +61,7 @@ def run(path_of_program: pathlib.Path, words: List[str], accepts_loss: bool, cat
             # The program says what is wrong with the path.
             return started([str(path_of_program), *asked(words)], None, catches)
         try:
-            keeper = Keeper(words[1], held, accepts_loss, words[0] == "converse")
+            keeper = Keeper(words[1], held, accepts_loss, words[0] == "converse", is_coming=words[0] == LIVE)
             if words[0] == EXPLAINS and is_unwritable(words[1]):
                 return keeper.run_over_copy([str(path_of_program), *words], catches)
             return keeper.run([str(path_of_program), *asked(words)], catches)
@@ -94,16 +96,19 @@ class Tail(NamedTuple):
 
 
 class Keeper:
-    """One run over a journal that is locked. `tells_others` says that its replies go to somebody else as they come, and `behind` where a
-    loss is accepted."""
+    """One run over a journal that is locked. `tells_others` says that its replies go to somebody else as they come, `behind` where a loss is
+    accepted, and `is_coming` that the document may still be written."""
 
-    def __init__(self, name: str, held: Lock, accepts_loss: bool, tells_others: bool = False, behind: str = BEHIND_JOURNAL) -> None:
+    def __init__(
+        self, name: str, held: Lock, accepts_loss: bool, tells_others: bool = False, behind: str = BEHIND_JOURNAL, is_coming: bool = False
+    ) -> None:
         self.journal = Journal(name, held.file)
         self.held = held
         self.told_path = path_of(held.path)
         self.accepts_loss = accepts_loss
         self.tells_others = tells_others
         self.behind = behind
+        self.is_coming = is_coming
         self.goes_on = f"{ACCEPT} behind {behind} goes on with what is there"
         self.said: List[str] = []
 
@@ -126,7 +131,7 @@ class Keeper:
         ended = started(words, self.held.file, catches, source, output)
         if tail:
             self.say_cut(tail)
-        if ended.status not in UNTOUCHED:
+        if ended.status not in UNTOUCHED or (self.is_coming and ended.status in MET_LATE):
             self.tell(found, ended.status)
         elif tells_others:
             self.put_back(found)
@@ -147,7 +152,7 @@ class Keeper:
     def begin(self, words: List[str]) -> Optional[Ended]:
         """Looks at the document with which the journal begins. How the program ended where it refuses that; refused too where it isn't whole.
         A conversation's policy is read then, so the journal is begun with it alone, and its lines follow under the journal's policy."""
-        front = founding.look(self.tells_others)
+        front = founding.look(self.tells_others, self.is_coming)
         if front.is_whole and not front.is_taken:
             return None
         with program.file_of(front.raw) as document, open(os.devnull, "wb") as nowhere, room(0) as folder:

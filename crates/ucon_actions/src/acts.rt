@@ -23,7 +23,8 @@ fn perform(state: &mut State, subject: &Name, action: &Name, object: &Name) -> R
     requires subject { IsSome (entity_number (shown state.old).tables sides.Subject subject.now) }
     requires object { IsSome (entity_number (shown state.old).tables sides.Object object.now) }
     requires named { names_act (shown state.old).policy.rights action.now ≡ true }
-    requires room { IsSome (moment_in (shown state.old).tables subject.now action.now object.now) ⊎ (length (shown state.old).tables.acts < MAX_ACTS) }
+    requires room { IsSome (moment_in (shown state.old).tables subject.now action.now object.now)
+        ⊎ (length (shown state.old).tables.acts < MAX_ACTS) }
     ensures leads { OnOk result (Leads (shown state.old) (shown state.new) (λ P T. act subject.now action.now object.now ∷ T)) }
     ensures base { KeepsBase (shown state.old) (shown state.new) }
 {

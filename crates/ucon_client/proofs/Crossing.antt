@@ -55,7 +55,9 @@ use Rattle.ucon_turn.specs.contracts.turn.Turn as Turn
 use Rattle.ucon_turn.specs.declared.value.Turned as Turned
 use Rattle.ucon_client.proofs.answer.Answer.TheSendSync as answer
 use Rattle.ucon_client.specs.contracts.answer.Answer as Answer
+use Rattle.ucon_client.proofs.ends.Taker.TheSendSync as taker
 use Rattle.ucon_client.specs.contracts.client.Client as Client
+use Rattle.ucon_client.specs.contracts.live_client.LiveClient as LiveClient
 use Rattle.ucon_client.specs.contracts.part.Part as Part
 use Rattle.ucon_client.proofs.looks.Looks.TheSendSync as looks
 use Rattle.ucon_client.specs.contracts.boarded.Boarded as Boarded
@@ -146,6 +148,13 @@ captures_sync name A B C D a b c d =
     let T = type_at name (A ∷ B ∷ C ∷ D ∷ []) in
     recorded_sync (structs.field T).row _ _ T.to_one (struct_sync (structs.shape T) (a, (b, (c, (d, tt)))))
 
+-- and five, of which one may be written to
+pub captures_send : (name : Sym) (A B C D E : RattleType) → IsSend A → IsSend B → IsSend C → IsSend D → IsSend E
+    → IsSend (TupleAt name (A ∷ B ∷ C ∷ D ∷ E ∷ []))
+captures_send name A B C D E a b c d e =
+    let T = type_at name (A ∷ B ∷ C ∷ D ∷ E ∷ []) in
+    recorded_send (structs.field T).row _ _ T.to_one (struct_send (structs.shape T) (a, (b, (c, (d, (e, tt))))))
+
 module _ (E D : RattleType) (g : engine.Ghosts E.Denot) (d : disk.Ghosts D.Denot) (engine_send : IsSend E) (disk_send : IsSend D) where
   store_inside_send : IsSend (store_inside.the_row E D g d)
   store_inside_send =
@@ -180,13 +189,20 @@ module _ (E D : RattleType) (g : engine.Ghosts E.Denot) (d : disk.Ghosts D.Denot
   boarded_send : IsSend (Boarded.the_row E D g d)
   boarded_send = view_send (boarded_inside.the_row E D g d) _ _ _ _ boarded_inside_send
 
-  pub client_send : IsSend (Client.the_row E D g d)
-  client_send =
-      recorded_send (Client.the_field E D g d).row _ _ (Client.the_type E D g d).to_one
-      (struct_send (structs.shape (Client.the_type E D g d)) (
+  client_field_send : IsSend (Client.the_field E D g d).row
+  client_field_send =
+      struct_send (structs.shape (Client.the_type E D g d)) (
         part_field_send,
         (seat.the_send (Boarded.the_row E D g d) Event.the_row boarded_send, (search (looks.the_send, crosses, sendable) depth 20, tt)),
-      ))
+      )
+
+  pub client_send : IsSend (Client.the_row E D g d)
+  client_send = recorded_send (Client.the_field E D g d).row _ _ (Client.the_type E D g d).to_one client_field_send
+
+  pub live_client_send : IsSend (LiveClient.the_row E D g d)
+  live_client_send =
+      recorded_send (LiveClient.the_field E D g d).row _ _ (LiveClient.the_type E D g d).to_one
+      (struct_send (structs.shape (LiveClient.the_type E D g d)) (client_field_send, (search (taker.the_send, line_send, crosses, sendable) depth 30, (search (crosses, sendable) depth 20, tt))))
 
   abbrev turned_ghosts : Turned.Ghosts (Boarded.the_row E D g d).Denot (SharedBase.the_row).Denot (Event.the_row).Denot
   turned_ghosts = turned.ghosts E D g turned.no_dict d turned.no_dict turned.no_dict

@@ -84,7 +84,7 @@ closed_legal {D} says G opened store closed seen taken clients same none joined 
 
 -- ---- the lines
 
-answered_lines : (lines : List Entry) (answers : List Told) → length answers ≡ length lines → map (λ t. t.line) (answered lines answers) ≡ lines
+pub answered_lines : (lines : List Entry) (answers : List Told) → length answers ≡ length lines → map (λ t. t.line) (answered lines answers) ≡ lines
 answered_lines [] answers long = refl
 answered_lines (line ∷ lines) [] long = absurd (omega (arith, long))
 answered_lines (line ∷ lines) (a ∷ answers) long = ap (λ l. line ∷ l) (answered_lines lines answers (omega (arith, long)))

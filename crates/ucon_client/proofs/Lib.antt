@@ -19,3 +19,7 @@ pub mod Held
 pub mod Holding
 pub mod Turning
 pub mod Posting
+pub mod LeftOut
+pub mod AllTold
+pub mod AllLive
+pub mod Taking

@@ -56,5 +56,6 @@ FeedsUpTo seen old new first last feeders fed (Err stop) = IsFedUpTo seen old ne
 pub record HasFed {S Z : Type 0} (seen : S → SourceSeen) (old new : ComingScript) (first last : S) (feeders fed : List (Fed (Box Line Z)))
     (result : Result (Unit {0}) ScriptStop) : Type 0 where
   pub before : List (Fed (Box Line Z))
+  pub as_many : length before ≡ length feeders
   pub up_to : FeedsUpTo seen old new first last feeders before result
   pub ends : AreEnded before fed

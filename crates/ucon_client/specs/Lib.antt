@@ -6,6 +6,7 @@ pub mod Events
 pub mod Feeding
 pub mod Laws
 pub mod LegalAfter
+pub mod Live
 pub mod Looks
 pub mod Reading
 pub mod Steps

@@ -44,6 +44,7 @@ impl<E: Engine, D: Disk> Client<E, D> {
         ensures client { (result.part ≡ part) × (result.seat ≡ seat) }
         ensures serves { ServesWith turn.now result.part result.seat result.looks }
         ensures none_held { held_by result.looks ≡ [] }
+        ensures alone { reader ≡ None → result.looks ≡ None }
     {
         let looks = match reader {
             Some(reader) => Some(Looks::new(alloc, reader)),
@@ -110,7 +111,7 @@ impl<E: Engine, D: Disk> Client<E, D> {
     }
 
     /// Answers the next line in the client's turn. It has no reader.
-    fn answer_next<R: Wait>(&mut self, rt: &R, alloc: Global, turn: &Turn<Boarded<E, D>>)
+    pub(crate) fn answer_next<R: Wait>(&mut self, rt: &R, alloc: Global, turn: &Turn<Boarded<E, D>>)
         requires serves { ServesWith turn.now self.old.part self.old.seat self.old.looks }
         requires alone { self.old.looks ≡ None }
         requires more { length self.old.part.answers.items < length self.old.part.lines.items }

@@ -84,7 +84,7 @@ fn seat_all<E: Engine, D: Disk>(
 }
 
 /// Takes all seats back, by rising client number, and keeps the answered parts.
-fn join_all<E: Engine, D: Disk>(
+pub(crate) fn join_all<E: Engine, D: Disk>(
     turn: &Turn<Boarded<E, D>>,
     seat: &mut Seat<Boarded<E, D>>,
     clients: Vec<Client<E, D>>,
@@ -171,7 +171,7 @@ pub fn serve<E: Engine + Send, D: Disk + Send, G: Gate + Sync, R: Threads + Wait
 }
 
 /// Room for so many clients, and for so many answered parts.
-fn room_for<E: Engine, D: Disk>(
+pub(crate) fn room_for<E: Engine, D: Disk>(
     alloc: Global,
     count: usize,
 ) -> Result<(Vec<Client<E, D>>, Vec<Part>), NoMemory>

@@ -1,18 +1,17 @@
 -- Requests that are answered together, one by one.
 use Rattle.std.proofs.Common.{zero, suc, ◌≡◌, inl, inr, ℕ, ◌+◌, ◌≤◌, ◌<◌, Bool, true, false, List, [], ◌∷◌, ◌++◌, length, take, drop, append_assoc, length-append, refl, sym, ap, subst, ◌∙◌, arith}
 use Rattle.std.proofs.lemmas.List.{append-nil}
-use Rattle.std.specs.Prelude.{◌≢◌, Option, Some, None, IsSome, if◌then◌else◌}
-use Rattle.ucon_base.specs.Elements.{Each}
+use Rattle.std.specs.Prelude.{◌≢◌, Option, Some, None, if◌then◌else◌}
 use Rattle.ucon_model.specs.declared.command.Entry.{Entry}
 use Rattle.ucon_model.specs.Batches.{changing}
 use Rattle.ucon_model.specs.History.{History, changes, grown, said, serial}
-use Rattle.ucon_model.specs.LegalRun.{Answer, Answered, history_after, placed}
+use Rattle.ucon_model.specs.LegalRun.{Answered, history_after, placed}
 use Rattle.ucon_model.specs.Plain.{Bytes, PlainPolicy, PlainReply}
 use Rattle.ucon_model.specs.Views.{reply_of}
 use Rattle.ucon_store.specs.Batched.{answers}
 use Rattle.ucon_store.specs.declared.placed.Placed.{Placed}
 use Rattle.ucon_converse.specs.Due.{is_due_after}
-use Rattle.ucon_converse.specs.Replies.{GoesOn, IsStep, JoinsDoubt, LeadsOn, Standing, StepsAndRests}
+use Rattle.ucon_converse.specs.Replies.{GoesOn, IsStep, Standing}
 use Rattle.ucon_converse.specs.Together.{StepEach, all_stopped, broken_off, replied}
 
 -- ---- histories

@@ -1,13 +1,13 @@
 -- Requests that are answered together, one by one, behind the actions so far.
-use Rattle.std.proofs.Common.{zero, suc, ◌≡◌, ◌≢◌, ◌↔◌, inl, inr, ℕ, ◌+◌, ◌≤◌, ◌<◌, Bool, true, false, List, [], ◌∷◌, ◌++◌, length, take, drop, append_assoc, length-append, refl, sym, ap, subst, ◌∙◌, arith}
+use Rattle.std.proofs.Common.{zero, suc, ◌≡◌, ◌≢◌, inl, inr, ℕ, ◌+◌, ◌≤◌, ◌<◌, Bool, true, false, List, [], ◌∷◌, ◌++◌, length, take, drop, append_assoc, length-append, refl, sym, ap, subst, ◌∙◌, arith}
 use Rattle.std.proofs.lemmas.List.{append-nil}
-use Rattle.std.specs.Prelude.{Option, Some, None, IsSome, if◌then◌else◌}
+use Rattle.std.specs.Prelude.{Some, None, if◌then◌else◌}
 use Rattle.ucon_model.specs.declared.command.Entry.{Entry}
 use Rattle.ucon_model.specs.Action.{Trace}
 use Rattle.ucon_model.specs.Block.{after, reply}
 use Rattle.ucon_model.specs.History.{History, changes, trace_from}
-use Rattle.ucon_model.specs.LegalRun.{Answered, no_memory, placed}
-use Rattle.ucon_model.specs.Plain.{Bytes, PlainPolicy, PlainReply}
+use Rattle.ucon_model.specs.LegalRun.{Answered, placed}
+use Rattle.ucon_model.specs.Plain.{PlainPolicy, PlainReply}
 use Rattle.ucon_model.specs.Views.{reply_of}
 use Rattle.ucon_store.specs.Batched.{answers, answers_after, changing_after}
 use Rattle.ucon_store.specs.declared.batch.BatchEnd.{BatchEnd}
@@ -164,7 +164,7 @@ module _ (P : PlainPolicy) where
             failing T n longer,
             inr (refl, refl, inr (record { doubt = doubt; failed = refl; some = some; would_change = is; joined = refl })),
             subst (λ (d : History). StepEachAt P (failing T n longer) (all_stopped lines) (failing T n d)) (behind ∙ ap (λ (b : Bool). doubt ++ (if b then e ∷ changing_after P (after P (trace_from P T doubt) e.caller e.command) lines else changing_after P (trace_from P T doubt) lines)) (sym is))
-            (others longer (some_longer doubt e)),
+                (others longer (some_longer doubt e)),
           )
       by others false is = (
         failing T n doubt,

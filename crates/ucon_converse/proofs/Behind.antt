@@ -1,9 +1,9 @@
 -- From the opening of a journal to its closing: a conversation behind the history as which the file was found.
-use Rattle.std.proofs.Common.{⊎_elim, ◌≡◌, ◌⊎◌, true, false, ℕ, List, [], ◌++◌, refl, sym, ap, subst, ◌∙◌, inl}
+use Rattle.std.proofs.Common.{⊎_elim, ◌≡◌, ◌⊎◌, true, false, ℕ, List, [], ◌++◌, refl, sym, ap, subst, ◌∙◌, inl, inr}
 use Rattle.std.proofs.lemmas.List.{append-nil}
 use Rattle.std.specs.Prelude.{Option, Some, None, is_some, IsSome, IfSome, ◌↔◌, Result, ⊤}
 use Rattle.ucon_disk.specs.Causes.{raised}
-use Rattle.ucon_disk.specs.Run.{IsAtRest, LeavesAfter, LeavesOnly, joined, weaker}
+use Rattle.ucon_disk.specs.Run.{LeavesFrom, LeavesOnly, joined, weaker}
 use Rattle.ucon_disk.specs.Seen.{DiskSeen}
 use Rattle.ucon_model.specs.Action.{Trace}
 use Rattle.ucon_model.specs.History.{History}
@@ -59,7 +59,7 @@ if_places (Some c) A B f a = f c a
 module _ {D : Type 0} (seen : D → DiskSeen) (only : (d : D) (c : List ℕ) → (seen d).images_since (seen d).moment c → (seen d).images c)
     (read : (d : D) → IfSome (seen d).contents (seen d).images)
     (text : Bytes) (P : PlainPolicy) (accepts : accepted text ≡ Some P) (disk : D) (store : Kept D)
-    (policy : store.policy ≡ text) (unmarked : store.mark ≡ None) (images_kept : LeavesAfter (seen disk) (seen store.disk) (Opens text))
+    (policy : store.policy ≡ text) (unmarked : store.mark ≡ None) (images_kept : LeavesFrom (seen disk) (seen store.disk) (Opens text))
     (unfailed : (seen store.disk).faults ≡ (seen disk).faults) (tells : is_some (seen store.disk).contents ≡ is_some (seen disk).contents)
     (begins : IfSome (seen disk).contents (λ file. BeginsAt (last_point file) store.point store.before))
     (same_places : SamePlaces (seen disk).contents (seen store.disk).contents)
@@ -109,12 +109,16 @@ module _ {D : Type 0} (seen : D → DiskSeen) (only : (d : D) (c : List ℕ) →
     found_resting : (c : Bytes) → (seen store.disk).images c → IsFoundAs text c (G ++ store.entries)
     found_resting c image = subst (λ (t : Bytes). IsFoundAs t c (G ++ store.entries)) policy (found_founded seen P store G f told_opened c image)
 
-    since_opened : IsAtRest (seen disk) file → LeavesOnly (seen disk) (seen over.closed.store.disk) Since
-    since_opened rest =
-        joined (seen disk) (seen store.disk) (seen over.closed.store.disk) Since
-        (weaker (seen disk) (seen store.disk) (Opens text file) Since (λ c o. found_at_first c (o.same (G ++ store.entries) found)) (images_kept.each file rest))
-        (weaker (seen store.disk) (seen over.closed.store.disk) (λ c. (seen store.disk).images c ⊎ IsFoundBetween (whole G store) (whole G over.closed.store) c) Since
-        (λ c. ⊎_elim (λ image. found_at_first c (found_resting c image)) (found_between c)) (over.keeps.stays.left P G f told_opened))
+    abbrev SinceOr : Bytes → Type 0
+    SinceOr c = (seen disk).images c ⊎ Since c
+
+    since_opened : LeavesOnly (seen disk) (seen over.closed.store.disk) SinceOr
+    since_opened =
+        joined (seen disk) (seen store.disk) (seen over.closed.store.disk) SinceOr
+        (weaker (seen disk) (seen store.disk) (λ c. (seen disk).images c ⊎ Opens text file c) SinceOr
+        (λ c. ⊎_elim inl (λ o. inr (found_at_first c (o.same (G ++ store.entries) found)))) (images_kept.each file told))
+        (weaker (seen store.disk) (seen over.closed.store.disk) (λ c. (seen store.disk).images c ⊎ IsFoundBetween (whole G store) (whole G over.closed.store) c) SinceOr
+        (λ c. ⊎_elim (λ image. inr (found_at_first c (found_resting c image))) (λ b. inr (found_between c b))) (over.keeps.stays.left P G f told_opened))
 
     -- what the store stands for as it was opened
     opened_so : standing G (point_places file) First ≡ opened_on file (G ++ store.entries)
@@ -141,7 +145,7 @@ module _ {D : Type 0} (seen : D → DiskSeen) (only : (d : D) (c : List ℕ) →
               (λ i. (policy i, opened_so i, sym over.disk_is i)) met;
           unfailed = λ none. ap (λ (d : D). (seen d).faults) over.disk_is ∙ (over.keeps.stays.unfailed (ap is_some (none ∙ sym unmarked)) ∙ unfailed);
           failed = λ es is. ap (λ (d : D). (seen d).faults) over.disk_is ∙ (over.keeps.stays.failed unmarked es is ∙ ap raised unfailed);
-          since = λ rest. subst (λ (d : D). LeavesOnly (seen disk) (seen d) Since) (sym over.disk_is) (since_opened rest);
+          since = subst (λ (d : D). LeavesOnly (seen disk) (seen d) SinceOr) (sym over.disk_is) since_opened;
           left = λ c image.
               subst (λ (t : Bytes). IsLeftBy accepted t Last c) (over.keeps.stays.policy ∙ policy)
               ((based_later seen only read First over.closed P G (point_places file) over.keeps at).each c (subst (λ (d : D). (seen d).images c) over.disk_is image));

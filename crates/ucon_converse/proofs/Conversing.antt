@@ -1,5 +1,5 @@
 -- From a keeper that talked to a conversation over its store.
-use Rattle.std.proofs.Common.{◌≡◌, ◌⊎◌, inl, inr, ⊎_elim, ℕ, ◌+◌, ◌≤◌, ◌<◌, List, [], ◌∷◌, ◌++◌, length, take, append_assoc, length-append, refl, sym, ap, subst, ◌∙◌, arith}
+use Rattle.std.proofs.Common.{◌≡◌, ◌⊎◌, inl, inr, ⊎_elim, ℕ, ◌+◌, ◌≤◌, List, [], ◌∷◌, ◌++◌, length, take, append_assoc, length-append, refl, sym, ap, subst, ◌∙◌, arith}
 use Rattle.std.proofs.lemmas.List.{append-nil}
 use Rattle.std.proofs.KnownBytes.{Appends-trans, Consumes-nil}
 use Rattle.std.proofs.Math.Seq.{take-append-add}
@@ -13,7 +13,7 @@ use Rattle.ucon_model.specs.LegalRun.{Answered, IsLegalRun, history_made, in_tex
 use Rattle.ucon_model.specs.Plain.{Bytes, PlainPolicy}
 use Rattle.ucon_model.specs.StoredRun.{LeadsTo, failed_line}
 use Rattle.ucon_store.specs.Kept.{Kept}
-use Rattle.ucon_store.specs.Points.{SameKind, has_points, text_in_force}
+use Rattle.ucon_store.specs.Points.{text_in_force}
 use Rattle.ucon_store.specs.Starts.{IsStart, text_at_start}
 use Rattle.ucon_store.specs.Whole.{IsFront}
 use Rattle.ucon_syntax.specs.Policies.{accepted}
@@ -26,12 +26,12 @@ use Rattle.ucon_tell.specs.declared.talk_fault.TalkFault.TheVariants as faults
 use Rattle.ucon_turn.specs.Lists.{Begins}
 use Rattle.ucon_converse.specs.Answering.{Answering}
 use Rattle.ucon_converse.specs.Conversation.{HasConversedBy, IsMarkOf, IsRunOver, IsStoppedBy, IsToldOnceKeptBy, goes_out}
-use Rattle.ucon_converse.specs.Exchanges.{Exchange, IsAnswered, behind, lines_in, replies_in}
+use Rattle.ucon_converse.specs.Exchanges.{Exchange, lines_in, replies_in}
 use Rattle.ucon_converse.specs.Greeting.{HasGreeted}
 use Rattle.ucon_converse.specs.Holding.{IsFoundPast, IsFoundedAt, standing}
 use Rattle.ucon_converse.specs.Keeping.{GivesReplies, IsDated, Keeps, Refuses, kept_seen, moment_of}
 use Rattle.ucon_converse.specs.KeeperLaws.{based_later, keeps_again, keeps_kept, keeps_same}
-use Rattle.ucon_converse.specs.Replies.{AreGivenBy, GivesReplyBy, IsTooLong, Standing, ready_line}
+use Rattle.ucon_converse.specs.Replies.{AreGivenBy, GivesReplyBy, Standing, ready_line}
 use Rattle.ucon_converse.proofs.Dated.{dated_before, given_as}
 use Rattle.ucon_converse.proofs.Leads.{LeadsOver, exchanges_lead}
 use Rattle.ucon_converse.proofs.Long.{long_lines_ask_nothing}
@@ -52,7 +52,7 @@ begins_behind G xs ys b = (b.0, append_assoc G xs b.0 ∙ ap (λ (l : History). 
 -- ---- what went out
 
 -- the first line went out, and then the replies
-went_out : (r : Result (Unit {0}) TalkFault) (before between now : Option Bytes) (ready replies : Bytes) → Appends before between ready → writes_by r between now replies
+pub went_out : (r : Result (Unit {0}) TalkFault) (before between now : Option Bytes) (ready replies : Bytes) → Appends before between ready → writes_by r between now replies
     → goes_out r before now ready replies
 went_out (Ok done) before between now xs ys p q = Appends-trans before between now xs ys p q
 went_out (Err faults.SinkFault) before between now xs ys p q = (
@@ -88,11 +88,11 @@ module _ {D : Type 0} (seen : D → DiskSeen) (only : (d : D) (c : List ℕ) →
   Rounds' first rounds last = AreRounds 65546 (GivesReplies seen) Refuses first rounds last
 
   -- a round leaves what a store's runs do
-  keeps_one : (before : Answering D) (r : Round (Answering D)) → AreAnswered 65546 (GivesReplies seen) before r ⊎ IsRefused 65546 Refuses before r → Keeps seen before r.after
+  pub keeps_one : (before : Answering D) (r : Round (Answering D)) → AreAnswered 65546 (GivesReplies seen) before r ⊎ IsRefused 65546 Refuses before r → Keeps seen before r.after
   keeps_one before r (inl a) = a.answered.keeps
   keeps_one before r (inr a) = subst (λ (s : Answering D). Keeps seen before s) (sym a.same) (keeps_same seen only before)
 
-  keeps_along : (first last : Answering D) (rounds : List (Round (Answering D))) → Rounds' first rounds last → Keeps seen first last
+  pub keeps_along : (first last : Answering D) (rounds : List (Round (Answering D))) → Rounds' first rounds last → Keeps seen first last
   keeps_along first last [] run = subst (λ (s : Answering D). Keeps seen first s) run (keeps_same seen only first)
   keeps_along first last (r ∷ rounds) run = keeps_again seen only read counts first r.after last (keeps_one first r run.0) (keeps_along r.after last rounds run.1)
 

@@ -42,7 +42,7 @@ unheard_step : (P : PlainPolicy) (history : History) (failed : Option History) (
     → IsStep P (record { history = history; failed = failed; points = points; tried = tried })
     (record { history = history; failed = failed; points = points; tried = tried }) (record { line = e; answer = unheard failed })
 unheard_step P history None points tried e = inl (refl, record { failed = None; mark = refl; leads = inl (tt, (refl, refl)); points = refl; tried = refl })
-unheard_step P history (Some f) points tried e = inr (refl, refl, refl)
+unheard_step P history (Some f) points tried e = inr (refl, refl, inl refl)
 
 unheard_rests : (old : Type 0) (P : PlainPolicy) (text : Bytes) (failed : Option History) (s : Standing) → Rests old P text (unheard failed) s s
 unheard_rests old P text None s = refl

@@ -1,7 +1,7 @@
 -- How many bytes lines have.
-use Rattle.std.proofs.Common.{zero, suc, ◌≡◌, ◌⊎◌, inl, inr, ℕ, ◌+◌, ◌≤◌, ◌<◌, true, false, Bool, List, [], ◌∷◌, ◌++◌, length, take, drop, append_assoc, length-append, refl, sym, ap, subst, ◌∙◌, arith}
+use Rattle.std.proofs.Common.{zero, suc, ◌≡◌, ℕ, ◌+◌, ◌<◌, true, Bool, List, [], ◌∷◌, ◌++◌, length, take, drop, append_assoc, length-append, refl, sym, ap, ◌∙◌, arith}
 use Rattle.std.proofs.Math.Seq.{drop-append_seam}
-use Rattle.std.specs.Prelude.{◌==◌, Option, Some, None, position, nat_lt, if◌then◌else◌}
+use Rattle.std.specs.Prelude.{◌==◌, Some, None, position, nat_lt, if◌then◌else◌}
 use Rattle.ucon_base.specs.Elements.{Each}
 use Rattle.ucon_flow.specs.Lines.{IsBare, newline}
 use Rattle.ucon_flow.proofs.Lines.{newline_behind}

@@ -1,9 +1,9 @@
 -- A journal whose first record is read, and nothing else.
-use Rattle.std.proofs.Common.{◌≡◌, inl, inr, ⊎_elim, ℕ, ◌<◌, length, refl, sym, ap, subst, ◌∙◌, arith}
+use Rattle.std.proofs.Common.{◌≡◌, ◌⊎◌, inl, inr, ⊎_elim, ℕ, ◌<◌, length, refl, sym, ap, subst, ◌∙◌, arith}
 use Rattle.std.proofs.lemmas.Bool.Decides.{leb_tells}
 use Rattle.std.specs.Prelude.{List, Option, Some, None, IfSome, option_map, Result, Ok, Err, IfErr}
 use Rattle.ucon_disk.specs.Disk.{Elapses, Only, SameImages}
-use Rattle.ucon_disk.specs.Run.{LeavesAfter, LeavesOnly, goes_on, joined, started, weaker}
+use Rattle.ucon_disk.specs.Run.{LeavesFrom, LeavesOnly, goes_on, joined, started, weaker}
 use Rattle.ucon_disk.specs.Seen.{DiskSeen}
 use Rattle.ucon_journal.specs.Found.{NextIsLonger, counted, payloads_from}
 use Rattle.ucon_journal.specs.Opened.{Untouched, opened}
@@ -54,9 +54,10 @@ module _ {D : Type 0} (seen : D → DiskSeen) (only : (d : D) (c : List ℕ) →
   looked : (old new : D) → SameImages (seen old).images (seen new).images
       → Elapses (seen old).moment (seen new).moment (seen old).images_since (seen new).images_since (seen new).images → LeavesSame (seen old) (seen new)
   looked old new same time = record {
-    each = λ file rest.
-        goes_on (seen old) (seen old) (seen new) (λ c. c ≡ file) (seen new).images
-        (started (seen old) (λ c. c ≡ file) (λ c since. rest.only c (only old c since))) time (λ c image. rest.only c (same.no_more c image));
+    each = λ file told.
+        let P : Bytes → Type 0 = λ c. (seen old).images c ⊎ (c ≡ file) in
+        goes_on (seen old) (seen old) (seen new) P (seen new).images
+        (started (seen old) P (λ c since. inl (only old c since))) time (λ c image. inl (same.no_more c image));
   }
 
   -- a look, and then what leaves the file as it was
@@ -64,21 +65,25 @@ module _ {D : Type 0} (seen : D → DiskSeen) (only : (d : D) (c : List ℕ) →
       → Elapses (seen old).moment (seen mid).moment (seen old).images_since (seen mid).images_since (seen mid).images → LeavesSame (seen mid) (seen new)
       → LeavesSame (seen old) (seen new)
   then_same old mid new contents same time next = record {
-    each = λ file rest.
-        joined (seen old) (seen mid) (seen new) (λ c. c ≡ file) ((looked old mid same time).each file rest)
-        (next.each file (record { told = contents ∙ rest.told; only = λ c image. rest.only c (same.no_more c image) }));
+    each = λ file told.
+        let P : Bytes → Type 0 = λ c. (seen old).images c ⊎ (c ≡ file) in
+        joined (seen old) (seen mid) (seen new) P ((looked old mid same time).each file told)
+        (weaker (seen mid) (seen new) (λ c. (seen mid).images c ⊎ (c ≡ file)) P (λ c. ⊎_elim (λ image. inl (same.no_more c image)) inr)
+        (next.each file (contents ∙ told)));
   }
 
   -- a journal was opened in a long file, and a record read
   pub opened_same : (old mid new : D) → IfSome (seen old).contents IsLong → (seen mid).contents ≡ option_map opened (seen old).contents
-      → Only (seen mid).contents (seen mid).images → LeavesAfter (seen old) (seen mid) Untouched → LeavesOnly (seen mid) (seen new) (seen mid).images
+      → Only (seen mid).contents (seen mid).images → LeavesFrom (seen old) (seen mid) Untouched → LeavesOnly (seen mid) (seen new) (seen mid).images
       → LeavesSame (seen old) (seen new)
   opened_same old mid new long contents rests opens run = record {
-    each = λ file rest.
-        let big : IsLong file = long_told (seen old).contents file rest.told long in
-        let there : (seen mid).contents ≡ Some file = contents ∙ (opened_whole (seen old).contents long ∙ rest.told) in
+    each = λ file told.
+        let P : Bytes → Type 0 = λ c. (seen old).images c ⊎ (c ≡ file) in
+        let big : IsLong file = long_told (seen old).contents file told long in
+        let there : (seen mid).contents ≡ Some file = contents ∙ (opened_whole (seen old).contents long ∙ told) in
         let now : Only (Some file) (seen mid).images = subst (λ (o : Option Bytes). Only o (seen mid).images) there rests in
-        joined (seen old) (seen mid) (seen new) (λ c. c ≡ file)
-        (weaker (seen old) (seen mid) (Untouched file) (λ c. c ≡ file) (λ c. ⊎_elim (λ same. same) (λ short. absurd (omega (arith, short.0, big)))) (opens.each file rest))
-        (weaker (seen mid) (seen new) (seen mid).images (λ c. c ≡ file) (λ c image. now c image) run);
+        let kept : (c : Bytes) → Untouched file c → c ≡ file = λ c. ⊎_elim (λ same. same) (λ short. absurd (omega (arith, short.0, big))) in
+        joined (seen old) (seen mid) (seen new) P
+        (weaker (seen old) (seen mid) (λ c. (seen old).images c ⊎ Untouched file c) P (λ c. ⊎_elim inl (λ u. inr (kept c u))) (opens.each file told))
+        (weaker (seen mid) (seen new) (seen mid).images P (λ c image. inr (now c image)) run);
   }

@@ -1,6 +1,5 @@
 -- Rounds, line by line.
-use Rattle.std.proofs.Common.{◌≡◌, ◌⊎◌, ℕ, ◌<◌, ◌≤◌, List, [], ◌∷◌, ◌++◌, length, append_assoc, refl, sym, ap, subst, ◌∙◌, arith}
-use Rattle.std.proofs.lemmas.List.{append-nil}
+use Rattle.std.proofs.Common.{◌≡◌, ℕ, List, [], ◌∷◌, ◌++◌, append_assoc, refl, sym, ap, subst, ◌∙◌, arith}
 use Rattle.ucon_base.specs.Elements.{Each}
 use Rattle.ucon_model.specs.Plain.{Bytes}
 use Rattle.ucon_tell.specs.Talk.{Round, told_in}

@@ -1,20 +1,17 @@
 -- What a store's batch says, line by line.
-use Rattle.std.proofs.Common.{zero, suc, ◌≡◌, ◌≢◌, ◌↔◌, inl, inr, ℕ, ◌+◌, ◌≤◌, ◌<◌, Bool, true, false, List, [], ◌∷◌, ◌++◌, length, take, drop, append_assoc, refl, sym, ap, subst, ◌∙◌, arith}
-use Rattle.std.proofs.lemmas.List.{append-nil, length-take}
+use Rattle.std.proofs.Common.{zero, suc, ◌≡◌, ◌≢◌, inl, ℕ, ◌+◌, ◌≤◌, ◌<◌, true, false, List, [], ◌∷◌, ◌++◌, length, take, drop, refl, sym, ap, subst, ◌∙◌, arith}
+use Rattle.std.proofs.lemmas.List.{append-nil}
 use Rattle.std.specs.Prelude.{Option, Some, None, IsSome}
 use Rattle.ucon_model.specs.declared.command.Entry.{Entry}
 use Rattle.ucon_model.specs.Batches.{changing}
-use Rattle.ucon_model.specs.History.{History, changes, said, serial}
+use Rattle.ucon_model.specs.History.{History, serial}
 use Rattle.ucon_model.specs.LegalRun.{Answered, no_memory}
 use Rattle.ucon_model.specs.Plain.{Bytes, PlainPolicy}
-use Rattle.ucon_store.specs.Batched.{IsBatched, answers}
-use Rattle.ucon_store.specs.declared.batch.Batched.{Batched}
+use Rattle.ucon_store.specs.Batched.{answers}
 use Rattle.ucon_store.specs.declared.batch.BatchEnd.{BatchEnd}
 use Rattle.ucon_store.specs.declared.batch.BatchEnd.TheVariants as ends
 use Rattle.ucon_store.specs.declared.placed.Placed.{Placed}
 use Rattle.ucon_store.specs.Kept.{Kept}
-use Rattle.ucon_store.specs.Whole.{whole}
-use Rattle.ucon_converse.specs.Due.{is_due_after}
 use Rattle.ucon_converse.specs.Holding.{stands}
 use Rattle.ucon_converse.specs.Replies.{GoesOn, Standing}
 use Rattle.ucon_converse.specs.Together.{IsNoneDueBefore, StepEach, answered_so, broken_off, is_answered, replied, unheard_first}

@@ -52,7 +52,7 @@ module _ (line : Bytes) (failed : Option History) (stopped : Bool) (is : is_some
 -- to be told so is a step that changes nothing
 unheard_at : (P : PlainPolicy) (x : Reached) (o : Option History) → x.failed ≡ o → (t : Answered) → t.answer ≡ unheard o → IsStepAt P x x t
 unheard_at P x None is t answer = inl (is, subst (IsNextAt P x x t.line) (sym answer) refl)
-unheard_at P x (Some es) is t answer = inr (subst (λ (o : Option History). IsSome o) (sym is) refl, answer, refl)
+unheard_at P x (Some es) is t answer = inr (subst (λ (o : Option History). IsSome o) (sym is) refl, answer, inl refl)
 
 pub unasked_at : (P : PlainPolicy) (x : Reached) (line reply : Bytes) → IsNoRequestBy accepted line ⊎ IsUnheard x.failed line reply → GivesReplyAtBy accepted P x x line reply
 unasked_at P x line reply (inl none) = inr (record { none = none; still = may_same x })

@@ -1,7 +1,7 @@
 -- How a whole conversation ends: the journal isn't opened, or lines were answered over it.
 use Rattle.std.specs.Prelude.{◌≡◌, ◌⊎◌, ⊤, ℕ, ◌<◌, Bool, true, false, List, [], ◌++◌, length, Option, IfSome, Some, None, is_some, IsSome, Result, Ok, Err}
 use Rattle.ucon_disk.specs.Causes.{raised}
-use Rattle.ucon_disk.specs.Run.{IsAtRest, LeavesAfter, LeavesOnly}
+use Rattle.ucon_disk.specs.Run.{LeavesFrom, LeavesOnly}
 use Rattle.ucon_disk.specs.Seen.{DiskSeen}
 use Rattle.ucon_journal.specs.Found.{counted}
 use Rattle.ucon_model.specs.Action.{Trace}
@@ -80,8 +80,8 @@ abbrev pub opened_on : Bytes → History → Standing
 opened_on file H = record { history = H; failed = None; points = point_places file; tried = steps_before (last_point file) }
 
 -- The conversation went on behind the opening history to a last standing. The disk's count of faults is one more if a call met a disk fault, and
--- otherwise as it was. A crash at any moment since, if the disk was at rest before, and a crash now at any rate, leaves what was done by then. Now it
--- leaves the policy and all checkpoints, too.
+-- otherwise as it was. A crash at any moment since leaves what a crash could leave before, or what was done by then. A crash now leaves what was done,
+-- with the policy and all checkpoints.
 pub record IsHeldBehindBy (reads : PolicyReading) (text : Bytes) (P : PlainPolicy) (file : Bytes) (opening : History) (outcome : Outcome)
     (old new : DiskSeen) (before now : VoiceSeen) (hears : Result (Unit {0}) TalkFault → Bytes → Type 0) : Type 0 where
   pub result : Result (Unit {0}) TalkFault
@@ -90,19 +90,19 @@ pub record IsHeldBehindBy (reads : PolicyReading) (text : Bytes) (P : PlainPolic
   pub conversed : HasConversedBy reads P text (IsOld file) 65546 result (opened_on file opening) last before now new ⊤ (hears result)
   pub unfailed : last.failed ≡ None → new.faults ≡ old.faults
   pub failed : (es : History) → last.failed ≡ Some es → new.faults ≡ raised old.faults
-  pub since : IsAtRest old file → LeavesOnly old new (IsFoundSinceBy reads text opening last.history last.failed)
+  pub since : LeavesOnly old new (λ c. old.images c ⊎ IsFoundSinceBy reads text opening last.history last.failed c)
   pub left : (c : Bytes) → new.images c → IsLeftBy reads text last c
 
 -- ---- under a policy
 
--- The text is a policy's. The journal wasn't opened for this reason, and nothing was told; if the disk was at rest, what was found in its file is
--- still found there.
+-- The text is a policy's. The journal wasn't opened for this reason, and nothing was told. A crash leaves what it could leave before, or a file in
+-- which what was found is still found.
 pub record IsNotOpenedBy (reads : PolicyReading) (text : Bytes) (outcome : Outcome) (old new : DiskSeen) (before now : VoiceSeen) : Type 0 where
   pub accepts : IsSome (reads text)
   pub fault : StoreFault
   pub outcome_is : outcome ≡ by_opening fault
   pub reason : HasReasonBy reads fault text old.contents old.faults new.faults
-  pub left : LeavesAfter old new (OpensBy reads text)
+  pub left : LeavesFrom old new (OpensBy reads text)
   pub contents : now.contents ≡ before.contents
   pub silent : (b : Bytes) (t : ℕ) → now.told b t → before.told b t
 
@@ -169,9 +169,9 @@ HasNoPolicy outcome left_before left = ⊥
 
 -- ---- under the policy that a journal has
 
--- a crash leaves the file as it was
+-- a crash leaves what it could leave before, or the file as it was
 abbrev pub LeavesSame : DiskSeen → DiskSeen → Type 0
-LeavesSame old new = LeavesAfter old new (λ file c. c ≡ file)
+LeavesSame old new = LeavesFrom old new (λ file c. c ≡ file)
 
 -- the disk was read, and nothing else
 pub record IsOnlyRead (old new : DiskSeen) : Type 0 where

@@ -42,8 +42,8 @@ pub(crate) fn answer_front<E: Engine, D: Disk>(
     requires led { IsLed store.old }
     requires whole { HasNewline came.now }
     requires fits { newline came.now < limit }
-    ensures reply { IfOk result (λ n. AreReplied limit (GivesReplies D.seen (answering store.old points.old) (answering store.new points.new)) came.now n
-        out.old.items out.new.items) }
+    ensures reply { IfOk result (λ n. AreReplied limit (GivesReplies D.seen (answering store.old points.old) (answering store.new points.new))
+        came.now n out.old.items out.new.items) }
     ensures failed { OnErr result ((answering store.old points.old ≡ answering store.new points.new)
         ⊎ AreAnsweredUntold limit (GivesReplies D.seen) (λ lines. IsFrontOf lines came.now) (answering store.old points.old) (answering store.new points.new)) }
     ensures keeps { Keeps D.seen (answering store.old points.old) (answering store.new points.new) }
@@ -73,8 +73,8 @@ fn answer_together<E: Engine, D: Disk>(
     requires unmarked { store.old.mark ≡ None }
     requires due { (P : PlainPolicy) (G : History) → accepted store.old.policy ≡ Some P → IsFront P store.old G
         → IsNoneDueBefore P points.old.tried (G ++ store.old.entries) (length lines.now) }
-    ensures reply { IfOk result (λ n. AreReplied limit (GivesReplies D.seen (answering store.old points.old) (answering store.new points.new)) came.now n
-        out.old.items out.new.items) }
+    ensures reply { IfOk result (λ n. AreReplied limit (GivesReplies D.seen (answering store.old points.old) (answering store.new points.new))
+        came.now n out.old.items out.new.items) }
     ensures failed { OnErr result (AreAnsweredUntold limit (GivesReplies D.seen) (λ lines. IsFrontOf lines came.now)
         (answering store.old points.old) (answering store.new points.new)) }
     ensures keeps { Keeps D.seen (answering store.old points.old) (answering store.new points.new) }
@@ -96,8 +96,8 @@ fn answer_first<E: Engine, D: Disk>(
     requires led { IsLed store.old }
     requires whole { HasNewline came.now }
     requires fits { newline came.now < limit }
-    ensures reply { IfOk result (λ n. AreReplied limit (GivesReplies D.seen (answering store.old points.old) (answering store.new points.new)) came.now n
-        out.old.items out.new.items) }
+    ensures reply { IfOk result (λ n. AreReplied limit (GivesReplies D.seen (answering store.old points.old) (answering store.new points.new))
+        came.now n out.old.items out.new.items) }
     ensures failed { OnErr result ((answering store.old points.old ≡ answering store.new points.new)
         ⊎ AreAnsweredUntold limit (GivesReplies D.seen) (λ lines. IsFrontOf lines came.now) (answering store.old points.old) (answering store.new points.new)) }
     ensures keeps { Keeps D.seen (answering store.old points.old) (answering store.new points.new) }
@@ -146,7 +146,8 @@ pub(crate) fn answer_request<E: Engine, D: Disk>(
     requires says { IsOk (line_read accepted request.now.command.text.now) }
     ensures reply { OnOk result (IsReplied (GivesReply D.seen (answering store.old points.old) (answering store.new points.new) line.now)
         out.old.items out.new.items) }
-    ensures failed { OnErr result ((reply : List ℕ) × GivesReply D.seen (answering store.old points.old) (answering store.new points.new) line.now reply) }
+    ensures failed { OnErr result ((reply : List ℕ)
+        × GivesReply D.seen (answering store.old points.old) (answering store.new points.new) line.now reply) }
     ensures keeps { Keeps D.seen (answering store.old points.old) (answering store.new points.new) }
 {
     let said = take_and_rest(alloc, store, points, request);

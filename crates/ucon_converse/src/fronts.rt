@@ -10,13 +10,7 @@ pub(crate) fn line_in_front(came: &[u8], limit: usize) -> Option<&[u8]>
     ensures none { result ≡ None → HasNewline came.now → newline came.now < limit → ⊥ }
 {
     match first_newline(came) {
-        Some(at) => {
-            if at < limit {
-                Some(&came[..at])
-            } else {
-                None
-            }
-        }
+        Some(at) => { if at < limit { Some(&came[..at]) } else { None } }
         None => None,
     }
 }

@@ -96,14 +96,7 @@ impl<E: Engine, D: Disk> Keeper for StoreKeeper<E, D> {
         limit: usize,
         text: &mut Vec<u8>,
     ) -> Result<usize, NoMemory> {
-        answer_front(
-            alloc,
-            &mut self.store,
-            &mut self.points,
-            came,
-            limit,
-            text,
-        )
+        answer_front(alloc, &mut self.store, &mut self.points, came, limit, text)
     }
 
     fn too_long(&self, text: &mut Vec<u8>) -> Result<(), NoMemory> {

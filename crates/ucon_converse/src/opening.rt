@@ -10,11 +10,12 @@ ghost use Rattle.ucon_converse.specs.Ended.{EndsBehindPolicyBy, EndsUnderBy, End
 use crate::holding::{MOST_LINE, hold};
 use crate::keeper::StoreKeeper;
 use crate::policy_text::{MOST_POLICY, accept, policy_text};
-use crate::recorded::{FIRST_GATE, recorded_policy};
+use crate::recorded::recorded_policy;
 use std::alloc::Global;
 use ucon_disk::Disk;
 use ucon_engine::Engine;
 use ucon_flow::{LineReader, Source};
+use ucon_journal::FIRST_GATE;
 use ucon_outcome::{Ended, Outcome, Refused};
 use ucon_store::Store;
 use ucon_tell::{TalkFault, Voice};
@@ -61,8 +62,10 @@ fn converse_under_input<E: Engine, S: Source, D: Disk, V: Voice<StoreKeeper<E, D
     disk: D,
 ) -> Ended<D>
     ensures status { result.status ≡ status_of result.outcome }
-    ensures ends { (HasNoPolicy result.outcome (S.seen input.old).left (S.seen input.new).left × IsUntouched disk result.disk (V.seen out.old) (V.seen out.new))
-        ⊎ EndsBehindPolicyBy accepted result.outcome (D.seen disk) (D.seen result.disk) (V.seen out.old) (V.seen out.new) (S.seen input.old).left (S.seen input.new).left }
+    ensures ends { (HasNoPolicy result.outcome (S.seen input.old).left (S.seen input.new).left
+        × IsUntouched disk result.disk (V.seen out.old) (V.seen out.new))
+        ⊎ EndsBehindPolicyBy accepted result.outcome (D.seen disk) (D.seen result.disk) (V.seen out.old) (V.seen out.new)
+        (S.seen input.old).left (S.seen input.new).left }
     ensures source { IsCounted result.outcome Outcome.SourceFault (S.seen input.old).faults (S.seen input.new).faults }
     ensures sink { IsCounted result.outcome Outcome.SinkFault (V.seen out.old).faults (V.seen out.new).faults }
 {
@@ -85,8 +88,10 @@ fn converse_under_record<E: Engine, S: Source, D: Disk, V: Voice<StoreKeeper<E, 
     disk: D,
 ) -> Ended<D>
     ensures status { result.status ≡ status_of result.outcome }
-    ensures ends { HasNoRecord result.outcome (D.seen disk) (D.seen result.disk) (V.seen out.old) (V.seen out.new) (S.seen input.old).left (S.seen input.new).left
-        ⊎ EndsUnderRecordBy D.seen accepted result.outcome disk result.disk (V.seen out.old) (V.seen out.new) (S.seen input.old).left (S.seen input.new).left }
+    ensures ends { HasNoRecord result.outcome (D.seen disk) (D.seen result.disk) (V.seen out.old) (V.seen out.new)
+        (S.seen input.old).left (S.seen input.new).left
+        ⊎ EndsUnderRecordBy D.seen accepted result.outcome disk result.disk (V.seen out.old) (V.seen out.new)
+        (S.seen input.old).left (S.seen input.new).left }
     ensures source { IsCounted result.outcome Outcome.SourceFault (S.seen input.old).faults (S.seen input.new).faults }
     ensures sink { IsCounted result.outcome Outcome.SinkFault (V.seen out.old).faults (V.seen out.new).faults }
 {
@@ -152,7 +157,8 @@ fn converse_over<E: Engine, S: Source, D: Disk, V: Voice<StoreKeeper<E, D>>>(
     requires led { IsLed store }
     requires limit { lines.old.limit ≡ 65546 }
     ensures status { result.status ≡ status_of result.outcome }
-    ensures talked { IsTalkedOver D.seen (record { store = store; made = []; tried = store.before }) result.disk result.outcome (V.seen out.old) (V.seen out.new)
+    ensures talked { IsTalkedOver D.seen (record { store = store; made = []; tried = store.before }) result.disk result.outcome
+        (V.seen out.old) (V.seen out.new)
         (λ r heard. Hears r lines.old.held lines.new.held (S.seen input.old).left (S.seen input.new).left heard) }
     ensures source { IsCounted result.outcome Outcome.SourceFault (S.seen input.old).faults (S.seen input.new).faults }
     ensures sink { IsCounted result.outcome Outcome.SinkFault (V.seen out.old).faults (V.seen out.new).faults }

@@ -10,14 +10,11 @@ ghost use Rattle.ucon_journal.specs.Journal.{IsReading, disk_of, gate_of};
 
 use std::alloc::Global;
 use ucon_disk::Disk;
-use ucon_journal::{Journal, OpenFault, TakeFault};
+use ucon_journal::{FIRST_GATE, Journal, OpenFault, TakeFault};
 use ucon_outcome::Outcome;
 
 /// The most bytes of a file that an opening makes into a new journal.
 const MOST_FRESH: u64 = 9;
-
-/// The place of the first gate, in bytes.
-pub(crate) const FIRST_GATE: u64 = 8;
 
 /// The text of the policy that the journal on a disk began with, its record 0, and the disk. A file that has none yet is no such journal, and isn't
 /// made into one: nothing is written.

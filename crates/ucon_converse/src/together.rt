@@ -61,12 +61,7 @@ fn has_two_lines(came: &[u8], limit: usize) -> bool {
 }
 
 /// The requests in front of what came, at most so many: as far as lines are whole, fit the limit, and are requests for which there is memory.
-pub(crate) fn requests_in_front(
-    alloc: Global,
-    came: &[u8],
-    limit: usize,
-    most: usize,
-) -> Vec<Entry>
+pub(crate) fn requests_in_front(alloc: Global, came: &[u8], limit: usize, most: usize) -> Vec<Entry>
     ensures front { (rest : Bytes) × AreInFront limit result.items came.now rest }
     ensures clients { All (λ e. e.caller.0 < 64) result.items }
     ensures few { length result.items ≤ most }
@@ -168,7 +163,12 @@ pub(crate) fn put_answers(
         BatchEnd::Full => put_counted(alloc, out, lines, &told.placed),
         BatchEnd::NoMemory(refused) => {
             if told.placed.is_empty() {
-                put_answer(alloc, out, lines[0].caller, &Err(StepFault::NoMemory(refused)))?;
+                put_answer(
+                    alloc,
+                    out,
+                    lines[0].caller,
+                    &Err(StepFault::NoMemory(refused)),
+                )?;
                 return Ok(1);
             }
             put_counted(alloc, out, lines, &told.placed)

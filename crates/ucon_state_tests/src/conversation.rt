@@ -266,7 +266,7 @@ steps
 const TOLD_OF_A_BATCH: &[&[u8]] = &[
     b"",
     b"- 0 ready\n0 - disk fault\n0 - stopped\n0 - stopped\n- - stopped\n",
-    b"- 0 ready\n0 1 ok\n0 1 exists\n0 2 ok\n- 2 steps\n",
+    b"- 0 ready\n0 1 ok\n0 1 already there\n0 2 ok\n- 2 steps\n",
 ];
 
 #[test]

@@ -90,7 +90,7 @@ fn served_at<R: Threads + Wait + Sync>(
 #[test]
 fn two_clients_meet(rt: HostRuntime) -> Result<(), Fail> {
     let meeting = two_clients();
-    for form in ["serve", "board"].as_slice() {
+    for form in ["serve", "board", "live"].as_slice() {
         let gate = MeetingGate::new();
         let end = served_at(&rt, rt.alloc(), form, &meeting, &gate)?;
         assert!(rt; matches!(end.outcome, Outcome::Done));
@@ -265,7 +265,7 @@ fn serial_steps(alloc: Global, output: &[u8]) -> Result<u64, Fail> {
 
 #[test]
 fn eight_clients_have_one_history(rt: HostRuntime) -> Result<(), Fail> {
-    for form in ["serve", "board"].as_slice() {
+    for form in ["serve", "board", "live"].as_slice() {
         let end = eight_served(&rt, rt.alloc(), form, &[])?;
         assert!(rt; matches!(end.outcome, Outcome::Done));
         let steps = serial_steps(rt.alloc(), &end.output)?;
@@ -309,7 +309,7 @@ fn steps_until_the_fault(output: &[u8]) -> Result<u64, Fail> {
 /// The disk fails in the midst of the lines. Whether the step that met it counts shows at the next opening.
 #[test]
 fn one_disk_fault_stops_everybody(rt: HostRuntime) -> Result<(), Fail> {
-    for form in ["serve", "board"].as_slice() {
+    for form in ["serve", "board", "live"].as_slice() {
         let end = eight_served(&rt, rt.alloc(), form, &[700])?;
         assert!(rt; matches!(end.outcome, Outcome::DiskFault));
         let placed = steps_until_the_fault(&end.output)?;

@@ -46,13 +46,13 @@ module _ (sees_one : SeesOneThing) (text : Bytes) (contents : Option Bytes) (own
   has_entries : (seen : Seen) → Sees own.file seen → HasEntries seen text own.entries
   has_entries seen sees = subst (λ (s : Seen). HasEntries s text own.entries) (sees_one own.file own.own.seen seen own.own.sees sees) own.own.has
 
-  not_foreign : IfSome contents (λ file. Sees file not_journal) → ⊥
+  pub not_foreign : IfSome contents (λ file. Sees file not_journal) → ⊥
   not_foreign h = has_entries not_journal (told_of (λ file. Sees file not_journal) h)
 
-  not_damaged : (number place : ℕ) → IfSome contents (λ file. Sees file (damaged number place)) → ⊥
+  pub not_damaged : (number place : ℕ) → IfSome contents (λ file. Sees file (damaged number place)) → ⊥
   not_damaged number place h = has_entries (damaged number place) (told_of (λ file. Sees file (damaged number place)) h)
 
-  not_others : (place : ℕ) → IfSome contents (HasOtherPolicy text place) → ⊥
+  pub not_others : (place : ℕ) → IfSome contents (HasOtherPolicy text place) → ⊥
   not_others place h =
       let other = told_of (HasOtherPolicy text place) h in
       let same = has_entries (holds other.other other.entries other.there other.gate) other.is in
@@ -61,7 +61,7 @@ module _ (sees_one : SeesOneThing) (text : Bytes) (contents : Option Bytes) (own
 
 -- ---- the input is not too long
 
-too_much : (n : ℕ) → n ≤ 4194304 → 4194304 < n → ⊥
+pub too_much : (n : ℕ) → n ≤ 4194304 → 4194304 < n → ⊥
 too_much n le less = omega (arith, le, less)
 
 not_long : (form : Form) (input : Option Bytes) (bytes : Bytes) → MayEnd form outcomes.TooLong → document_of form input ≡ Some bytes → IsAccepted bytes
@@ -71,7 +71,7 @@ not_long form input bytes may is accepted long = too_much (length bytes) accepte
 
 -- ---- by how the run ended
 
-rose : (before now : ℕ) → now ≡ raised before → Rose before now
+pub rose : (before now : ℕ) → now ≡ raised before → Rose before now
 rose before now is = subst (λ (n : ℕ). raised before ≤ n) (sym is) (omega arith)
 
 module _ (before after : AllSeen) where

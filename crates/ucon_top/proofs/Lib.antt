@@ -18,3 +18,7 @@ pub mod Playing
 pub mod Pointing
 pub mod TellingForms
 pub mod Told
+pub mod Living
+pub mod LiveCompleting
+pub mod LiveEnds
+pub mod Unlived

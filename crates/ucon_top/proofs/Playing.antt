@@ -38,7 +38,7 @@ use Rattle.ucon_top.specs.Form.{output_order, sees_by}
 use Rattle.ucon_trial.specs.Runs.{IsUnfaulted}
 use Rattle.ucon_top.specs.Seen.{as_it_was}
 use Rattle.ucon_top.specs.Keeping.{KeepsFile}
-use Rattle.ucon_top.specs.Played.{IsAnsweredFrom}
+use Rattle.ucon_top.specs.Played.{AreOf, IsAnsweredFrom}
 use Rattle.ucon_top.specs.Stepping.{AreAnswered, AreRunAfter, HaveOutput, IsRunAfter, IsRunBetween, entries_of_all}
 use Rattle.ucon_top.specs.Traits.{traits}
 use Rattle.ucon_top.specs.Unread.{IsUnread}
@@ -75,6 +75,17 @@ unfaulted : (sees : Caller → Caller → Bool) (threads : Bool) (P : PlainPolic
     → AreRunAfter sees threads P T n told → failed_line told ≡ None → IsUnfaulted told
 unfaulted sees true P T n told legal none = none_faulted P sees T n told legal none
 unfaulted sees false P T n told serial none = serial_unfaulted P T n told serial none
+
+-- How a run of lines over a store ended: no line met a fault and the output is whole, a front of it went out, a line met a disk fault, or there was
+-- no memory.
+abbrev pub RunEnds : Form → Bytes → (List ScriptLine → Type 0) → DiskSeen → DiskSeen → (was written : Option Bytes) → Outcome → Type 0
+RunEnds form bytes are old new was written outcomes.Done =
+    IsRunOver form bytes are old new (λ told. (failed_line told ≡ None) × IsUnfaulted told) (HaveOutput (Appends was written)) × (new.faults ≡ old.faults)
+RunEnds form bytes are old new was written outcomes.SinkFault = IsRunOver form bytes are old new (λ told. ⊤) (HaveOutput (AppendsPrefix was written))
+RunEnds form bytes are old new was written outcomes.DiskFault =
+    IsRunOver form bytes are old new (λ told. IsSome (failed_line told)) (HaveOutput (Appends was written))
+RunEnds form bytes are old new was written (outcomes.NoMemory m) = IsRunOver form bytes are old new (λ told. ⊤) (λ lines told. ⊤)
+RunEnds form bytes are old new was written outcome = ⊥
 
 -- what a disk's laws say of moments
 pub record HasMoments {D : Type 0} (seen : D → DiskSeen) : Type 0 where
@@ -236,8 +247,8 @@ module _ {D : Type 0} (seen : D → DiskSeen) where
 
     -- ---- all of it
 
-    module _ (form : Form) (bytes : Bytes) (lines : List ScriptLine) (is_text : text ≡ policy_part bytes) (has_policy : HasPolicy bytes P)
-        (says : document_read accepted bytes ≡ Ok lines) (causes : List Answered → Type 0) (so : List Entry → List Answered → Type 0) where
+    module _ (form : Form) (bytes : Bytes) (are : List ScriptLine → Type 0) (lines : List ScriptLine) (is_text : text ≡ policy_part bytes)
+        (has_policy : HasPolicy bytes P) (says : are lines) (causes : List Answered → Type 0) (so : List Entry → List Answered → Type 0) where
       abbrev Lines : List Entry
       Lines = output_order form (entries_of lines)
 
@@ -261,7 +272,7 @@ module _ {D : Type 0} (seen : D → DiskSeen) where
         answered_there : IsRunAfter (sees_by form) (traits form).threads P opened.begun store closed answers.told
         answered_there = answers.after opened.begun opened.starts
 
-        pub run_over : IsRunOver form bytes (seen disk) (seen now) causes so
+        pub run_over : IsRunOver form bytes are (seen disk) (seen now) causes so
         run_over = record {
           policy = P;
           lines = lines;
@@ -282,10 +293,10 @@ module _ {D : Type 0} (seen : D → DiskSeen) where
               is_text behind;
         }
 
-  -- how playing ends, by how the run over the store does
+  -- how lines were run, by how the run over the store ended
   module _ (moments : HasMoments seen) (P : PlainPolicy) (text : Bytes) (disk : D) (store : Kept D) (opened : IsOpened P text disk store) (form : Form)
-      (bytes : Bytes) (lines : List ScriptLine)
-      (is_text : text ≡ policy_part bytes) (has_policy : HasPolicy bytes P) (says : document_read accepted bytes ≡ Ok lines) (now : D) (was written : SinkSeen) where
+      (bytes : Bytes) (are : List ScriptLine → Type 0) (lines : List ScriptLine)
+      (is_text : text ≡ policy_part bytes) (has_policy : HasPolicy bytes P) (says : are lines) (now : D) (was written : SinkSeen) where
     abbrev Entries : List Entry
     Entries = output_order form (entries_of lines)
 
@@ -298,8 +309,8 @@ module _ {D : Type 0} (seen : D → DiskSeen) where
           → ((T : Trace) (n : ℕ) (told : List Answered) → AreRunAfter (sees_by form) (traits form).threads P T n told
           → closed.mark ≡ marked (failed_line told) → causes told)
           → ((told : List Answered) → given told → so Entries told)
-          → IsRunOver form bytes (seen disk) (seen now) causes so
-      over = run_over moments P text disk store closed now opened closes form bytes lines is_text has_policy says
+          → IsRunOver form bytes are (seen disk) (seen now) causes so
+      over = run_over moments P text disk store closed now opened closes form bytes are lines is_text has_policy says
 
       unfailed : closed.mark ≡ None → (seen now).faults ≡ (seen disk).faults
       unfailed none = ap (λ d. (seen d).faults) closes.disk_is ∙ closes.stays.unfailed (ap is_some (none ∙ sym opened.unmarked)) ∙ opened.unfailed
@@ -312,7 +323,7 @@ module _ {D : Type 0} (seen : D → DiskSeen) where
       one_line by told marks = sym (is_marked (failed_line told)) ∙ (ap is_some (sym marks) ∙ by)
 
       ends : (outcome : Outcome) → IsOfRun outcome → IsMarkedBy outcome closed.mark → EndsSo outcome
-          → HasPlayed form outcome bytes (seen disk) (seen now) was written
+          → RunEnds form bytes are (seen disk) (seen now) was.contents written.contents outcome
       ends outcomes.Done of by e = (
         over (λ told. (failed_line told ≡ None) × IsUnfaulted told) (HaveOutput (Appends was.contents written.contents))
             (HaveOutput (Appends was.contents written.contents) Entries) e
@@ -324,20 +335,37 @@ module _ {D : Type 0} (seen : D → DiskSeen) where
       ends outcomes.SinkFault of by e =
           over (λ told. ⊤) (HaveOutput (AppendsPrefix was.contents written.contents)) (HaveOutput (AppendsPrefix was.contents written.contents) Entries) e
           (λ T n told run marks. tt) (λ told output. output)
-      ends outcomes.DiskFault of by e = inl (
+      ends outcomes.DiskFault of by e =
           over (λ told. IsSome (failed_line told)) (HaveOutput (Appends was.contents written.contents))
           (HaveOutput (Appends was.contents written.contents) Entries) e
           (λ T n told run marks. one_line by told marks) (λ told output. output)
-          )
       ends (outcomes.NoMemory m) of by e =
-          inr (inr (over (λ told. ⊤) (λ (es : List Entry) (told : List Answered). ⊤) (λ (told : List Answered). ⊤) e
-          (λ T n told run marks. tt) (λ told nothing. tt)))
+          over (λ told. ⊤) (λ (es : List Entry) (told : List Answered). ⊤) (λ (told : List Answered). ⊤) e
+          (λ T n told run marks. tt) (λ told nothing. tt)
       ends outcome of by e = absurd (cc (of.0, of.1))
 
-    pub ends_run : (outcome : Outcome) → IsOfRun outcome
+    pub over_store : (outcome : Outcome) → IsOfRun outcome
         → IsClosedRun seen (sees_by form) (traits form).threads P store Entries outcome now was.contents written.contents
+        → RunEnds form bytes are (seen disk) (seen now) was.contents written.contents outcome
+    over_store outcome of run = ends run.closed run.closes outcome of run.marked run.answered
+
+  -- how playing a document ends, by how the run over the store does
+  module _ (moments : HasMoments seen) (P : PlainPolicy) (text : Bytes) (disk : D) (store : Kept D) (opened : IsOpened P text disk store) (form : Form)
+      (bytes : Bytes) (lines : List ScriptLine)
+      (is_text : text ≡ policy_part bytes) (has_policy : HasPolicy bytes P) (says : document_read accepted bytes ≡ Ok lines) (now : D) (was written : SinkSeen) where
+    plays : (outcome : Outcome) → IsOfRun outcome → RunEnds form bytes (AreOf accepted bytes) (seen disk) (seen now) was.contents written.contents outcome
         → HasPlayed form outcome bytes (seen disk) (seen now) was written
-    ends_run outcome of run = ends run.closed run.closes outcome of run.marked run.answered
+    plays outcomes.Done of e = e
+    plays outcomes.SinkFault of e = e
+    plays outcomes.DiskFault of e = inl e
+    plays (outcomes.NoMemory m) of e = inr (inr e)
+    plays outcome of e = absurd (cc (of.0, of.1))
+
+    pub ends_run : (outcome : Outcome) → IsOfRun outcome
+        → IsClosedRun seen (sees_by form) (traits form).threads P store (output_order form (entries_of lines)) outcome now was.contents written.contents
+        → HasPlayed form outcome bytes (seen disk) (seen now) was written
+    ends_run outcome of run = plays outcome of
+        (over_store moments P text disk store opened form bytes (AreOf accepted bytes) lines is_text has_policy says now was written outcome of run)
 
   -- a run that met a disk fault raised the disk's count
   pub run_raised : (sees : Caller → Caller → Bool) (threads : Bool) (P : PlainPolicy) (disk : D) (store : Kept D) → store.mark ≡ None → (seen store.disk).faults ≡ (seen disk).faults → (lines : List Entry) (now : D) (was written : Option Bytes)

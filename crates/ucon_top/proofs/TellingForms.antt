@@ -12,6 +12,7 @@ pub record IsTelling (form : Form) : Type 0 where
   pub alone : IsAlone form → ⊥
   pub runs : HasJournal form → ⊥
   pub points : form ≡ forms.Point → ⊥
+  pub live : form ≡ forms.Live → ⊥
   pub reads : (left : Option Bytes) → document_of form left ≡ left
 
 pub telling : (form : Form) → TellsText form → IsTelling form
@@ -19,18 +20,21 @@ telling (forms.Audit kept) tells = record {
   alone = λ (h : true ≡ false). cc h;
   runs = λ (h : false ≡ true). cc h;
   points = λ (h : forms.Audit kept ≡ forms.Point). cc h;
+  live = λ (h : forms.Audit kept ≡ forms.Live). cc h;
   reads = λ left. refl;
 }
 telling forms.Report tells = record {
   alone = λ (h : true ≡ false). cc h;
   runs = λ (h : false ≡ true). cc h;
   points = λ (h : forms.Report ≡ forms.Point). cc h;
+  live = λ (h : forms.Report ≡ forms.Live). cc h;
   reads = λ left. refl;
 }
 telling (forms.Explain s r o) tells = record {
   alone = λ (h : true ≡ false). cc h;
   runs = λ (h : false ≡ true). cc h;
   points = λ (h : forms.Explain s r o ≡ forms.Point). cc h;
+  live = λ (h : forms.Explain s r o ≡ forms.Live). cc h;
   reads = λ left. refl;
 }
 telling forms.Trial tells = absurd (let none : false ≡ true = tells in cc none)
@@ -38,5 +42,6 @@ telling forms.Check tells = absurd (let none : false ≡ true = tells in cc none
 telling (forms.Gen seed size) tells = absurd (let none : false ≡ true = tells in cc none)
 telling forms.Play tells = absurd (let none : false ≡ true = tells in cc none)
 telling forms.Serve tells = absurd (let none : false ≡ true = tells in cc none)
+telling forms.Live tells = absurd (let none : false ≡ true = tells in cc none)
 telling forms.Board tells = absurd (let none : false ≡ true = tells in cc none)
 telling forms.Point tells = absurd (let none : false ≡ true = tells in cc none)

@@ -11,7 +11,7 @@ use Rattle.ucon_model.specs.LegalRun.{in_text_order, own_answers}
 use Rattle.ucon_client.specs.Dividing.{by_client}
 use Rattle.ucon_model.specs.Plain.{Bytes}
 use Rattle.ucon_top.specs.declared.form.Form.{Form}
-use Rattle.ucon_top.specs.declared.form.Form.TheVariants.{Trial, Check, Gen, Play, Serve, Board, Point, Audit, Report, Explain}
+use Rattle.ucon_top.specs.declared.form.Form.TheVariants.{Trial, Check, Gen, Play, Serve, Board, Live, Point, Audit, Report, Explain}
 use Rattle.ucon_top.specs.Traits.{traits}
 
 -- the form that is one word
@@ -33,13 +33,14 @@ gen_form word seed size =
     option_and_then (λ s. option_and_then (λ n. Some (Gen s n)) (option_and_then size_of (number_spelled size))) (option_and_then seed_of (number_spelled seed))
     else None
 
--- `play`, `serve`, `board`, `point`, `audit` and `report` with the journal's path
+-- `play`, `serve`, `board`, `live`, `point`, `audit` and `report` with the journal's path
 abbrev pub journal_form : (word path : Bytes) → Option Form
 journal_form word [] = None
 journal_form word (b ∷ path) =
     if bytes_eq word (codes "play") then Some Play else if bytes_eq word (codes "serve") then Some Serve
-    else if bytes_eq word (codes "board") then Some Board else if bytes_eq word (codes "point") then Some Point
-    else if bytes_eq word (codes "audit") then Some (Audit None) else if bytes_eq word (codes "report") then Some Report else None
+    else if bytes_eq word (codes "board") then Some Board else if bytes_eq word (codes "live") then Some Live
+    else if bytes_eq word (codes "point") then Some Point else if bytes_eq word (codes "audit") then Some (Audit None)
+    else if bytes_eq word (codes "report") then Some Report else None
 
 -- so many records and a head's text, as they were kept
 abbrev pub kept_head : (head : Bytes) → ℕ → Option Kept
@@ -90,6 +91,10 @@ TellsText form = IsTrue (traits form).tells
 -- the form makes no call of the disk
 abbrev pub IsAlone : Form → Type 0
 IsAlone form = IsFalse (traits form).disk
+
+-- the form has its document whole before it does anything else; `live` reads it while it runs
+abbrev pub ReadsWhole : Form → Type 0
+ReadsWhole form = IsTrue (traits form).whole
 
 -- whether a form is asked for that runs each client in a thread of its own
 abbrev pub asks_for_threads : Option Form → Bool

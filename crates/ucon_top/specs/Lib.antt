@@ -4,6 +4,8 @@ pub mod Complete
 pub mod Ending
 pub mod Form
 pub mod Keeping
+pub mod LiveEnding
+pub mod Lived
 pub mod Own
 pub mod OwnReading
 pub mod Played

@@ -2,6 +2,7 @@
 use Rattle.std.specs.Prelude.{Bool, List, Option, ℕ, ⊤}
 use Rattle.ucon_disk.specs.Seen.{DiskSeen}
 use Rattle.ucon_flow.specs.Seen.{SinkSeen}
+use Rattle.ucon_model.specs.Document.{ScriptLine}
 use Rattle.ucon_model.specs.History.{History}
 use Rattle.ucon_model.specs.LegalRun.{Answered}
 use Rattle.ucon_model.specs.Action.{Trace}
@@ -14,6 +15,7 @@ use Rattle.ucon_script.specs.declared.doc_fault.DocFault.{DocFault}
 use Rattle.ucon_syntax.specs.Policies.{accepted}
 use Rattle.ucon_top.specs.Accepted.{IsAcceptedBy, IsPolicyFault, IsRefusedSo, IsScriptFaultBy}
 use Rattle.ucon_top.specs.Complete.{IsFoundJournalBy, IsOwnJournalBy, IsUnhinderedBy}
+use Rattle.ucon_top.specs.Lived.{HasLivedBy, HasLivedInputBy, IsFedToBy, IsLivedToBy}
 use Rattle.ucon_top.specs.Own.{IsOwnFileBy, IsOwnStateBy}
 use Rattle.ucon_top.specs.Played.{HasPlayedBy, HasPlayedInputBy, IsFoundSinceBy, IsPlayedBy, IsRunOverBy, IsUnopenedBy}
 use Rattle.ucon_top.specs.Pointed.{HasNoPointBy, HasPointBy, HasPointedBy, HasPointedInputBy, IsPointOverBy, IsStillFoundBy, MayHavePointBy}
@@ -48,7 +50,8 @@ IsFoundSince = IsFoundSinceBy accepted
 abbrev pub IsPlayed : (Caller → Caller → Bool) → Bytes → PlainPolicy → Bytes → History → DiskSeen → DiskSeen → List Answered → Type 0
 IsPlayed = IsPlayedBy accepted
 
-abbrev pub IsRunOver : Form → Bytes → DiskSeen → DiskSeen → (List Answered → Type 0) → (List Entry → List Answered → Type 0) → Type 0
+abbrev pub IsRunOver : Form → Bytes → (List ScriptLine → Type 0) → DiskSeen → DiskSeen → (List Answered → Type 0)
+    → (List Entry → List Answered → Type 0) → Type 0
 IsRunOver = IsRunOverBy accepted
 
 abbrev pub HasPlayed : Form → Outcome → Bytes → DiskSeen → DiskSeen → SinkSeen → SinkSeen → Type 0
@@ -56,6 +59,18 @@ HasPlayed = HasPlayedBy accepted
 
 abbrev pub HasPlayedInput : Form → Outcome → Option Bytes → DiskSeen → DiskSeen → SinkSeen → SinkSeen → Type 0
 HasPlayedInput = HasPlayedInputBy accepted
+
+abbrev pub IsFedTo : Outcome → (bytes read : Bytes) → List ScriptLine → Type 0
+IsFedTo = IsFedToBy accepted
+
+abbrev pub IsLivedTo : Outcome → (bytes read : Bytes) → (before after : Seen) → (List Answered → Type 0) → (List Entry → List Answered → Type 0) → Type 0
+IsLivedTo = IsLivedToBy accepted
+
+abbrev pub HasLived : Outcome → (bytes read : Bytes) → (before after : Seen) → Type 0
+HasLived = HasLivedBy accepted
+
+abbrev pub HasLivedInput : Outcome → (before after : Seen) → Type 0
+HasLivedInput = HasLivedInputBy accepted
 
 abbrev pub IsUnopened : StoreFault → Bytes → DiskSeen → DiskSeen → Type 0
 IsUnopened = IsUnopenedBy accepted

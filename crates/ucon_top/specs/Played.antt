@@ -59,16 +59,16 @@ pub record IsAnsweredFrom (form : Form) (P : PlainPolicy) (T : Trace) (entries :
   pub unfailed : failed_line told ≡ None → new.faults ≡ old.faults
   pub failed : (e : Entry) → failed_line told ≡ Some e → new.faults ≡ raised old.faults
 
--- The bytes are an accepted document, and the document's lines were answered. Of the lines and their answers this is so, and the answers have these
--- causes, whatever the disk tells. If the disk told its file, opening saw a fresh one, or a journal under the document's policy. In it were so many
--- entries, and what is there after these actions. The answers are a run after those. That holds also of a file that opening alone accepts, and after
--- some actions of a disk that tells nothing. The records of the file are kept. If it is found as a history, the lines were played behind that.
-pub record IsRunOverBy (reads : PolicyReading) (form : Form) (bytes : Bytes) (old new : DiskSeen) (causes : List Answered → Type 0)
-    (so : List Entry → List Answered → Type 0) : Type 0 where
+-- The policy part of the bytes is accepted, and lines that are so were answered. Of the lines and their answers this is so, and the answers have
+-- these causes, whatever the disk tells. If the disk told its file, opening saw a fresh one, or a journal under the document's policy. In it were so
+-- many entries, and what is there after these actions. The answers are a run after those. That holds also of a file that opening alone accepts, and
+-- after some actions of a disk that tells nothing. The records of the file are kept. If it is found as a history, the lines were played behind that.
+pub record IsRunOverBy (reads : PolicyReading) (form : Form) (bytes : Bytes) (are : List ScriptLine → Type 0) (old new : DiskSeen)
+    (causes : List Answered → Type 0) (so : List Entry → List Answered → Type 0) : Type 0 where
   pub policy : PlainPolicy
   pub lines : List ScriptLine
   pub has_policy : HasPolicy bytes policy
-  pub says : document_read reads bytes ≡ Ok lines
+  pub says : are lines
   pub entries : ℕ
   pub actions : Trace
   pub own : IfSome old.contents (IsOwnStateBy reads (policy_part bytes) policy entries actions)
@@ -81,6 +81,10 @@ pub record IsRunOverBy (reads : PolicyReading) (form : Form) (bytes : Bytes) (ol
   pub run : (file : Bytes) (opening : History) → old.contents ≡ Some file → IsFoundBy reads (policy_part bytes) file opening
       → (length opening ≡ entries) × IsPlayedBy reads (sees_by form) (policy_part bytes) policy file opening old new told
 
+-- the lines are those of a document that is accepted
+abbrev pub AreOf : PolicyReading → Bytes → List ScriptLine → Type 0
+AreOf reads bytes lines = document_read reads bytes ≡ Ok lines
+
 -- The journal wasn't opened for this reason. But for a disk fault the file is as it was; one of at most nine bytes is a journal without a record. A
 -- crash leaves what it could leave before, or a file in which what was found is still found, and which is as it was if it is foreign.
 pub record IsUnopenedBy (reads : PolicyReading) (fault : StoreFault) (text : Bytes) (old new : DiskSeen) : Type 0 where
@@ -91,19 +95,20 @@ pub record IsUnopenedBy (reads : PolicyReading) (fault : StoreFault) (text : Byt
 -- What holds of the disk, and of the sink, by how playing ended. Otherwise than by the causes named here it made no call of the disk.
 abbrev pub HasPlayedBy : PolicyReading → Form → Outcome → Bytes → DiskSeen → DiskSeen → SinkSeen → SinkSeen → Type 0
 HasPlayedBy reads form Done bytes old new before now =
-    IsRunOverBy reads form bytes old new (λ told. (failed_line told ≡ None) × IsUnfaulted told) (HaveOutput (Appends before.contents now.contents))
+    IsRunOverBy reads form bytes (AreOf reads bytes) old new (λ told. (failed_line told ≡ None) × IsUnfaulted told)
+    (HaveOutput (Appends before.contents now.contents))
     × (new.faults ≡ old.faults)
 HasPlayedBy reads form SinkFault bytes old new before now =
-    IsRunOverBy reads form bytes old new (λ told. ⊤) (HaveOutput (AppendsPrefix before.contents now.contents))
+    IsRunOverBy reads form bytes (AreOf reads bytes) old new (λ told. ⊤) (HaveOutput (AppendsPrefix before.contents now.contents))
 HasPlayedBy reads form DiskFault bytes old new before now =
-    IsRunOverBy reads form bytes old new (λ told. IsSome (failed_line told)) (HaveOutput (Appends before.contents now.contents))
+    IsRunOverBy reads form bytes (AreOf reads bytes) old new (λ told. IsSome (failed_line told)) (HaveOutput (Appends before.contents now.contents))
     ⊎ (IsUnopenedBy reads stores.DiskFault (policy_part bytes) old new × (now ≡ before))
 HasPlayedBy reads form NotJournal bytes old new before now = IsUnopenedBy reads stores.NotJournal (policy_part bytes) old new
 HasPlayedBy reads form (Damaged number place) bytes old new before now = IsUnopenedBy reads (stores.Damaged number place) (policy_part bytes) old new
 HasPlayedBy reads form (OtherPolicy place) bytes old new before now = IsUnopenedBy reads (stores.OtherPolicy place) (policy_part bytes) old new
 HasPlayedBy reads form (NoMemory e) bytes old new before now =
     IsAsBefore old new ⊎ IsUnopenedBy reads (stores.NoMemory e) (policy_part bytes) old new
-    ⊎ IsRunOverBy reads form bytes old new (λ told. ⊤) (λ lines told. ⊤)
+    ⊎ IsRunOverBy reads form bytes (AreOf reads bytes) old new (λ told. ⊤) (λ lines told. ⊤)
 HasPlayedBy reads form outcome bytes old new before now = IsAsBefore old new
 
 -- so it was played over some bytes, which are those of the input if the source tells them

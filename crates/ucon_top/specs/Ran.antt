@@ -6,11 +6,12 @@ use Rattle.ucon_disk.specs.Causes.{raised}
 use Rattle.ucon_outcome.specs.declared.outcome.Outcome.{Outcome}
 use Rattle.ucon_outcome.specs.declared.outcome.Outcome.TheVariants.{Done, Usage, SourceFault, SinkFault, DiskFault, TooLong}
 use Rattle.ucon_top.specs.declared.form.Form.{Form}
-use Rattle.ucon_top.specs.declared.form.Form.TheVariants.{Point}
+use Rattle.ucon_top.specs.declared.form.Form.TheVariants.{Live, Point}
 use Rattle.ucon_top.specs.Accepted.{IsRefusedSo, IsAcceptedBy}
 use Rattle.ucon_top.specs.Complete.{IsComplete, IsUnhinderedBy}
 use Rattle.ucon_top.specs.Ending.{IsCounted, IsOfAccepted, IsUntouched, IsUnwritten, MayEnd}
-use Rattle.ucon_top.specs.Form.{IsAlone, HasJournal, TellsText}
+use Rattle.ucon_top.specs.Form.{IsAlone, HasJournal, ReadsWhole, TellsText}
+use Rattle.ucon_top.specs.Lived.{HasLivedInputBy}
 use Rattle.ucon_top.specs.Played.{HasPlayedInputBy}
 use Rattle.ucon_top.specs.Pointed.{HasPointedInputBy}
 use Rattle.ucon_top.specs.Printed.{Adds, IsOutputOfBy, IsCutOutputOfBy, ReadsInput, document_of}
@@ -19,14 +20,15 @@ use Rattle.ucon_top.specs.Seen.{Seen, IsAsBefore}
 use Rattle.ucon_top.specs.Telling.{HasToldInputBy}
 use Rattle.ucon_store.specs.Points.{PolicyReading}
 
--- Each outcome has its cause, and no other one stands for a fault of the source or of the sink. Want of memory alone may come at any moment.
+-- Each outcome has its cause, and no other one stands for a fault of the source or of the sink. Want of memory alone may come at any moment. Why a
+-- document is refused that is still being written, and whether its source failed, is said with its run.
 pub record HasCauses (reads : PolicyReading) (asked : Form) (ended : Outcome) (before after : Seen) : Type 0 where
   pub usage : ended ≢ Usage
   pub form : MayEnd asked ended
-  pub source : IsCounted ended SourceFault before.source.faults after.source.faults
+  pub source : ReadsWhole asked → IsCounted ended SourceFault before.source.faults after.source.faults
   pub too_long : ended ≡ TooLong → IfSome before.source.left (λ bytes. 4194304 < length bytes)
-  pub refused : IfSome (document_of asked before.source.left) (IsRefusedSo reads ended)
-  pub accepted : IsOfAccepted ended → IfSome (document_of asked before.source.left) (IsAcceptedBy reads)
+  pub refused : ReadsWhole asked → IfSome (document_of asked before.source.left) (IsRefusedSo reads ended)
+  pub accepted : ReadsWhole asked → IsOfAccepted ended → IfSome (document_of asked before.source.left) (IsAcceptedBy reads)
   pub sink : IsCounted ended SinkFault before.sink.faults after.sink.faults
   pub fault : ended ≡ DiskFault → after.disk.faults ≡ raised before.disk.faults
 
@@ -38,19 +40,22 @@ pub record HasMade (reads : PolicyReading) (asked : Form) (ended : Outcome) (bef
       → Adds (IsOutputOfBy reads asked) (document_of asked before.source.left) before.sink.contents after.sink.contents
   pub cut_short : ended ≡ SinkFault → IsAlone asked
       → Adds (IsCutOutputOfBy reads asked) (document_of asked before.source.left) before.sink.contents after.sink.contents
-  pub unwritten : IsUnwritten ended → after.sink ≡ before.sink
-  pub played : HasJournal asked → HasPlayedInputBy reads asked ended before.source.left before.disk after.disk before.sink after.sink
+  pub unwritten : ReadsWhole asked → IsUnwritten ended → after.sink ≡ before.sink
+  pub played : HasJournal asked → ReadsWhole asked
+      → HasPlayedInputBy reads asked ended before.source.left before.disk after.disk before.sink after.sink
+  pub lived : asked ≡ Live → HasLivedInputBy reads ended before after
   pub pointed : asked ≡ Point → HasPointedInputBy reads ended before.source.left before.disk after.disk before.sink after.sink
   pub told : TellsText asked → HasToldInputBy reads asked ended before.source.left before.disk after.disk before.sink after.sink
 
 -- An accepted document was read to its end, with at most one read for each byte within the limit, and one more; for `gen` nothing is read. The disk
--- is as it was if the document is refused or wasn't had, and if the form has no journal.
+-- is as it was if the document is refused or wasn't had, and if the form has no journal. What `live` leaves is said with its run.
 pub record HasLeft (reading : PolicyReading) (asked : Form) (ended : Outcome) (before after : Seen) : Type 0 where
-  pub read : IsOfAccepted ended → ReadsInput asked → IsAtEnd after.source.left
-  pub reads : after.source.reads ≤ before.source.reads + 4194305
+  pub read : ReadsWhole asked → IsOfAccepted ended → ReadsInput asked → IsAtEnd after.source.left
+  pub reads : ReadsWhole asked → after.source.reads ≤ before.source.reads + 4194305
   pub unread : (ReadsInput asked → ⊥) → after.source ≡ before.source
-  pub untouched : IsUntouched ended → IsAsBefore before.disk after.disk
-  pub unaccepted : IfSome (document_of asked before.source.left) (λ bytes. IsAsBefore before.disk after.disk ⊎ IsAcceptedBy reading bytes)
+  pub untouched : ReadsWhole asked → IsUntouched ended → IsAsBefore before.disk after.disk
+  pub unaccepted : ReadsWhole asked
+      → IfSome (document_of asked before.source.left) (λ bytes. IsAsBefore before.disk after.disk ⊎ IsAcceptedBy reading bytes)
   pub alone : IsAlone asked → IsAsBefore before.disk after.disk
 
 -- If nothing hinders the run, the lines were answered, or the checkpoint is written, and the output is whole; or there was no memory, or for

@@ -2,7 +2,7 @@
 use Rattle.std.specs.Prelude.{Bool}
 use Rattle.ucon_outcome.specs.Ending.{y, n}
 use Rattle.ucon_top.specs.declared.form.Form.{Form}
-use Rattle.ucon_top.specs.declared.form.Form.TheVariants.{Trial, Check, Gen, Play, Serve, Board, Point, Audit, Report, Explain}
+use Rattle.ucon_top.specs.declared.form.Form.TheVariants.{Trial, Check, Gen, Play, Serve, Board, Live, Point, Audit, Report, Explain}
 
 -- What is so of each run of a form.
 pub record Traits : Type 0 where
@@ -17,10 +17,12 @@ pub record Traits : Type 0 where
   pub checks : Bool
   -- it runs each client in a thread of its own
   pub threads : Bool
+  -- it has its document whole before it does anything else
+  pub whole : Bool
 
-abbrev row : Bool → Bool → Bool → Bool → Bool → Bool → Bool → Traits
-row reads disk runs points tells checks threads =
-    record { reads = reads; disk = disk; runs = runs; points = points; tells = tells; checks = checks; threads = threads }
+abbrev row : Bool → Bool → Bool → Bool → Bool → Bool → Bool → Bool → Traits
+row reads disk runs points tells checks threads whole =
+    record { reads = reads; disk = disk; runs = runs; points = points; tells = tells; checks = checks; threads = threads; whole = whole }
 
 -- Each form with its row, from which the words of a form are read.
 --      reads
@@ -30,24 +32,27 @@ row reads disk runs points tells checks threads =
 --      | | | | tells
 --      | | | | | checks
 --      | | | | | | threads
+--      | | | | | | | whole
 abbrev pub traits : Form → Traits
 traits Trial =
-    row y n n n n n n
+    row y n n n n n n y
 traits Check =
-    row y n n n n n n
+    row y n n n n n n y
 traits (Gen seed size) =
-    row n n n n n n n
+    row n n n n n n n y
 traits Play =
-    row y y y n n n n
+    row y y y n n n n y
 traits Serve =
-    row y y y n n n y
+    row y y y n n n y y
 traits Board =
-    row y y y n n n y
+    row y y y n n n y y
+traits Live =
+    row y y y n n n y n
 traits Point =
-    row y y n y n n n
+    row y y n y n n n y
 traits (Audit kept) =
-    row y y n n y y n
+    row y y n n y y n y
 traits Report =
-    row y y n n y y n
+    row y y n n y y n y
 traits (Explain subject right object) =
-    row y y n n y n n
+    row y y n n y n n y

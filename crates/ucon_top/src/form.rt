@@ -27,6 +27,8 @@ pub enum Form {
     Serve,
     /// `board JOURNAL`: runs the document as `serve` does. A `look` is read off a board that shows the journal's sessions, and takes no turn.
     Board,
+    /// `live JOURNAL`: runs the document as `serve` does, while its script is still being written.
+    Live,
     /// `point JOURNAL`: runs no line of the document, and writes a checkpoint of a journal's state.
     Point,
     /// `audit JOURNAL`, or `audit JOURNAL K HEX`: runs no line of the document, and tells of a journal that it checks from its first byte. It also
@@ -49,7 +51,7 @@ impl Form {
     pub(crate) fn has_threads(self) -> bool
         ensures { result ≡ asks_for_threads (Some self) }
     {
-        matches!(self, Form::Serve | Form::Board)
+        matches!(self, Form::Serve | Form::Board | Form::Live)
     }
 }
 
@@ -130,6 +132,8 @@ fn journal_form(word: &[u8], path: &[u8]) -> Option<Form>
         Some(Form::Serve)
     } else if word == b"board".as_slice() {
         Some(Form::Board)
+    } else if word == b"live".as_slice() {
+        Some(Form::Live)
     } else if word == b"point".as_slice() {
         Some(Form::Point)
     } else if word == b"audit".as_slice() {

@@ -17,6 +17,7 @@ mod document;
 mod form;
 mod laws;
 mod line_answer;
+mod live;
 mod parts_text;
 mod play;
 mod point;

@@ -130,7 +130,7 @@ fn serve_lines<E: Engine + Send, K: Sink, D: Disk + Send, G: Gate + Sync, R: Thr
 }
 
 /// Closes the store over which all parts were answered, and writes their output.
-fn end_served<E: Engine, K: Sink, D: Disk>(
+pub(crate) fn end_served<E: Engine, K: Sink, D: Disk>(
     alloc: Global,
     store: Store<E, D>,
     parts: &[Part],

@@ -4,7 +4,7 @@ ghost use Rattle.std.specs.Prelude.{◌≡◌, ◌≤◌, ◌+◌, false, Some, 
 ghost use Rattle.std.specs.Io.KnownBytes.{IsAtEnd};
 ghost use Rattle.ucon_syntax.specs.Policies.{accepted};
 ghost use Rattle.ucon_top.specs.Ending.{status_of, IsCounted, IsOfAccepted, IsOfPrinting, IsUnwritten, MayEnd};
-ghost use Rattle.ucon_top.specs.Form.{asked, asks_for_threads, HasSize, IsAlone};
+ghost use Rattle.ucon_top.specs.Form.{asked, asks_for_threads, HasSize, IsAlone, ReadsWhole};
 ghost use Rattle.ucon_top.specs.Printed.{Adds, ReadsInput, document_of};
 ghost use Rattle.ucon_top.specs.Ran.{Causes, Makes, Leaves, Completes, HasCauses, HasMade, HasLeft, IsWhole};
 ghost use Rattle.ucon_top.specs.Seen.{all_seen};
@@ -14,6 +14,7 @@ ghost use Rattle.ucon_top.specs.OwnReading.{IsAccepted, IsCutOutputOf, IsOutputO
 use crate::document::output_of;
 use crate::form::{Form, read_form};
 use crate::laws::accepted_documents_are_not_refused;
+use crate::live::live;
 use crate::play::play;
 use crate::point::point;
 use crate::serve::serve;
@@ -37,7 +38,8 @@ const LIMIT: usize = 4_194_304;
 ///
 /// `serve` runs the document over the journal on the disk, each client in a thread of its own. It writes one answer a line, client by client by
 /// rising number, when all threads have returned; the gate is told of each line. `board` does the same, and reads a `look` off a board without a
-/// turn. `run_alone` does all other forms.
+/// turn. `live` does the same while the document's script is still being written: each line is answered once it is there. `run_alone` does all
+/// other forms.
 pub fn run<S: Source, K: Sink, D: Disk + Send, G: Gate + Sync, R: Threads + Wait + Sync>(
     rt: &R,
     alloc: Global,
@@ -62,6 +64,7 @@ pub fn run<S: Source, K: Sink, D: Disk + Send, G: Gate + Sync, R: Threads + Wait
         None => Ended::by(Outcome::Usage, disk),
         Some(Form::Serve) => serve_input(rt, alloc, Form::Serve, input, out, disk, gate),
         Some(Form::Board) => serve_input(rt, alloc, Form::Board, input, out, disk, gate),
+        Some(Form::Live) => live_input(rt, alloc, input, out, disk, gate),
         Some(form) => run_alone(rt, alloc, form, input, out, disk),
     }
 }
@@ -113,7 +116,7 @@ pub fn run_alone<S: Source, K: Sink, D: Disk, R: Threads + Sync>(
         Form::Trial | Form::Check | Form::Gen { seed: _, size: _ } => {
             Ended::by(print_output(alloc, form, &bytes, out), disk)
         }
-        Form::Serve | Form::Board => unreachable!(),
+        Form::Serve | Form::Board | Form::Live => unreachable!(),
     }
 }
 
@@ -151,6 +154,7 @@ fn serve_input<S: Source, K: Sink, D: Disk + Send, G: Gate + Sync, R: Threads + 
     gate: &G,
 ) -> Ended<D>
     requires threads { asks_for_threads (Some form) ≡ true }
+    requires whole { ReadsWhole form }
     requires size { HasSize form }
     ensures status { result.status ≡ status_of result.outcome }
     ensures causes { HasCauses accepted form result.outcome (all_seen (S.seen input.old) (K.seen out.old) (D.seen disk))
@@ -168,6 +172,30 @@ fn serve_input<S: Source, K: Sink, D: Disk + Send, G: Gate + Sync, R: Threads + 
         Ok(bytes) => serve::<Monitor, K, D, G, R>(rt, alloc, &form, &bytes, out, disk, gate),
         Err(outcome) => Ended::by(outcome, disk),
     }
+}
+
+/// Runs the document that the input is as `live` does.
+fn live_input<S: Source, K: Sink, D: Disk + Send, G: Gate + Sync, R: Threads + Wait + Sync>(
+    rt: &R,
+    alloc: Global,
+    input: &mut S,
+    out: &mut K,
+    disk: D,
+    gate: &G,
+) -> Ended<D>
+    ensures status { result.status ≡ status_of result.outcome }
+    ensures causes { HasCauses accepted Form.Live result.outcome (all_seen (S.seen input.old) (K.seen out.old) (D.seen disk))
+        (all_seen (S.seen input.new) (K.seen out.new) (D.seen result.disk)) }
+    ensures made { HasMade accepted Form.Live result.outcome (all_seen (S.seen input.old) (K.seen out.old) (D.seen disk))
+        (all_seen (S.seen input.new) (K.seen out.new) (D.seen result.disk)) }
+    ensures left { HasLeft accepted Form.Live result.outcome (all_seen (S.seen input.old) (K.seen out.old) (D.seen disk))
+        (all_seen (S.seen input.new) (K.seen out.new) (D.seen result.disk)) }
+    ensures complete { IsWhole accepted Form.Live result.outcome (all_seen (S.seen input.old) (K.seen out.old) (D.seen disk))
+        (all_seen (S.seen input.new) (K.seen out.new) (D.seen result.disk)) }
+{
+    accepted_documents_are_not_refused();
+    opening_sees_one_thing();
+    live::<Monitor, S, K, D, G, R>(rt, alloc, input, out, disk, gate)
 }
 
 /// The document that a form runs: the input's bytes, or for `gen` the generated ones. Else how the run ends.

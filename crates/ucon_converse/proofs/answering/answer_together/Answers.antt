@@ -1,4 +1,3 @@
-use Rattle.std.proofs.Common.{◌≡◌, List, ℕ}
 use Rattle.ucon_tell.specs.Told.{AreAnsweredUntold, IsFrontOf}
 use Rattle.ucon_converse.specs.Answering.{answering}
 use Rattle.ucon_converse.specs.Keeping.{GivesReplies}

@@ -1,4 +1,4 @@
-use Rattle.std.proofs.Common.{rules, ◌≤◌, arith}
+use Rattle.std.proofs.Common.{arith}
 use Rattle.ucon_converse.proofs.InFront.{none_there, stands_in_front, too_far}
 use Rattle.ucon_converse.proofs.fronts.line_in_front.Goals as goal
 

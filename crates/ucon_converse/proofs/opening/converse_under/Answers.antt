@@ -25,7 +25,7 @@ returns-in-Ok-clause-ends g c =
     let over : IsTalkedOver seen first c.converse_over.result.disk c.converse_over.result.outcome old new (so c.args.lines.now.held) =
     subst (λ (l : Reading). IsTalkedOver seen first c.converse_over.result.disk c.converse_over.result.outcome old new (so l.held)) c.limit_to.ensures c.converse_over.ensures.talked in
     inr (
-    held_over seen g.met.D.Disk.only_now g.met.D.Disk.as_read text P.0 P.1 c.args.disk store told.store.0 told.store.2 told.images told.unfailed told.tells
+    held_over seen g.met.D.Disk.only_now g.met.D.Disk.as_read text P.0 P.1 c.args.disk store told.store.0 told.store.2 told.since told.unfailed told.tells
     told.begins told.places told.old (told.leads P.0 P.1) (told.seen P.0 P.1)
     c.converse_over.result.disk c.converse_over.result.outcome old new (so c.args.lines.now.held) over
     (λ file H is found. told.founded P.0 file H P.1 is found)

@@ -1,4 +1,4 @@
-use Rattle.std.proofs.Common.{rules, ◌≡◌, ◌++◌, ◌+◌, ◌-◌, ◌≤◌, ℕ, length, max, arith, ◌∙◌}
+use Rattle.std.proofs.Common.{◌≡◌, ◌++◌, ◌+◌, ◌-◌, ◌≤◌, length, max, arith, ◌∙◌}
 use Rattle.ucon_model.specs.History.{History, trace}
 use Rattle.ucon_state.specs.Held.{held_after}
 use Rattle.ucon_state.specs.Shown.{shown}

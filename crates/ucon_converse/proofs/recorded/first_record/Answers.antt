@@ -15,7 +15,7 @@ returns-in-Ok-text-clause-only_read g c =
     let only_read : IsOnlyRead (seen old) (seen new) = record {
       contents = reads.contents ∙ (opens.bytes ∙ opened_whole (seen old).contents c.requires);
       faults = c.in-Ok-text.ensures.unfailed ∙ opens.unfailed;
-      images_kept = opened_same seen g.met.D.Disk.only_now old mid new c.requires opens.bytes opens.only opens.images reads.run;
+      images_kept = opened_same seen g.met.D.Disk.only_now old mid new c.requires opens.bytes opens.only opens.since reads.run;
     } in
     subst (λ (d : g.row.D.Denot). IsOnlyRead (seen old) (seen d)) (sym c.close-disk.ensures) only_read
 
@@ -27,5 +27,5 @@ returns-in-Err-clause-left g c =
     let new = disk_of c.first_payload-text.new.journal in
     let opens = c.in-Ok.ensures in
     let same : LeavesSame (seen old) (seen new) =
-    opened_same seen g.met.D.Disk.only_now old mid new c.requires opens.bytes opens.only opens.images c.first_payload-text.ensures.run in
+    opened_same seen g.met.D.Disk.only_now old mid new c.requires opens.bytes opens.only opens.since c.first_payload-text.ensures.run in
     subst (λ (d : g.row.D.Denot). LeavesSame (seen old) (seen d)) (sym c.close-disk.ensures) same

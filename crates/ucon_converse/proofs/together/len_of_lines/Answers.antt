@@ -1,5 +1,5 @@
-use Rattle.std.proofs.Common.{suc, rules, ◌≡◌, ◌+◌, ◌<◌, ◌≤◌, ◌∙◌, ℕ, List, length, take, drop, arith, sym, ap, subst}
-use Rattle.std.specs.Prelude.{◌==◌, Option, Some, None, position}
+use Rattle.std.proofs.Common.{suc, ◌≡◌, ◌+◌, ◌<◌, ◌∙◌, ℕ, length, take, drop, arith, ap}
+use Rattle.std.specs.Prelude.{◌==◌, Some, None, position}
 use Rattle.ucon_flow.proofs.Lines.{rest_of}
 use Rattle.ucon_model.specs.Plain.{Bytes}
 use Rattle.ucon_tell.specs.Told.{lines_of}

@@ -10,6 +10,7 @@ use Rattle.ucon_top.proofs.Completing.{over_document, played_complete, pointed_c
 use Rattle.ucon_top.proofs.Leaving.{unless_accepted}
 use Rattle.ucon_top.proofs.Playing.{unread_played}
 use Rattle.ucon_top.proofs.Pointing.{unread_pointed}
+use Rattle.ucon_top.proofs.Threads.{not_live}
 use Rattle.ucon_top.proofs.TellingForms.{IsTelling, telling}
 use Rattle.ucon_top.proofs.Told.{unread_told}
 use Rattle.ucon_top.proofs.top.run_alone.Goals as goal
@@ -24,9 +25,10 @@ returns-in-Err-clause-made g c =
       done = search rules;
       cut_short = search rules;
       unwritten = search rules;
-      played = λ _. rw (c.by.ensures.outcome, c.by.ensures.disk) (
+      played = λ _ _. rw (c.by.ensures.outcome, c.by.ensures.disk) (
           unread_played c.args.form c.in-Err.outcome source.left source.faults source'.faults disk sink c.in-Err.ensures.ends
           );
+      lived = λ is. absurd (not_live c.args.form c.requires.alone is);
       pointed = λ _. rw (c.by.ensures.outcome, c.by.ensures.disk) (
           unread_pointed c.in-Err.outcome source.left source.faults source'.faults disk sink c.in-Err.ensures.ends
           );
@@ -75,7 +77,8 @@ returns-in-Audit-clause-made g c =
       done = λ _ alone. absurd (so.alone alone);
       cut_short = λ _ alone. absurd (so.alone alone);
       unwritten = search rules;
-      played = λ runs. absurd (so.runs runs);
+      played = λ runs whole. absurd (so.runs runs);
+      lived = λ live. absurd (so.live live);
       pointed = λ point. absurd (so.points point);
       told = λ _. record { bytes = bytes; are = subst (λ (o : Option Bytes). IfSome o (λ d. d ≡ bytes)) (so.reads left) is; told = c.tell.ensures.told };
     }
@@ -90,7 +93,7 @@ returns-in-Audit-clause-left g c =
       reads = search rules;
       unread = search rules;
       untouched = search rules;
-      unaccepted = unless_accepted g.D.Disk.seen document bytes c.args.disk c.tell.result.disk is c.tell.ensures.unaccepted;
+      unaccepted = λ _. unless_accepted g.D.Disk.seen document bytes c.args.disk c.tell.result.disk is c.tell.ensures.unaccepted;
       alone = search rules;
     }
 

@@ -33,3 +33,10 @@ returns-clause-none_held g c =
       | in-Some w ↦ subst (λ (o : Option Looks). held_by o ≡ []) (sym w.looks-is) w.new.ensures.1
       | in-None w ↦ ap held_by w.looks-is
     ]
+
+pub returns-clause-alone : goal.returns-clause-alone
+returns-clause-alone g c =
+    elim c.match-reader.branch [
+      | in-Some w ↦ λ none. absurd (cc (none, w.in-Some.is))
+      | in-None w ↦ λ _. w.looks-is
+    ]
