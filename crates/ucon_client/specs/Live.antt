@@ -84,8 +84,8 @@ module _ {S : Type 0} (seen : S → SourceSeen) where
   AreJudged old new first last (Ok u) lines = Says seen old new first last lines × (new.lines.over ≡ true)
   AreJudged old new first last (Err stop) lines = IsJudgedUpTo old new first last lines stop
 
--- The answers are a legal run behind a store's entries, with each history before them that leads to where the store begins; and after each trace
--- that leads there, and the entries. They make another store's entries and mark.
+-- The answers are a legal run behind a store's entries, with each history before them that leads to where the store begins. So they are after each
+-- trace that leads there, and the entries. They make another store's entries and mark.
 pub record AreRunOver {D : Type 0} (old new : Kept D) (told : List Answered) : Type 0 where
   pub legal : (P : PlainPolicy) (H : History) → accepted old.policy ≡ Some P → IsFront P old H
       → IsLegalRun P own_answers (H ++ old.entries) told
