@@ -6,7 +6,7 @@ use Rattle.ucon_model.specs.declared.command.Entry.{Entry}
 use Rattle.ucon_model.specs.Action.{Trace}
 use Rattle.ucon_model.specs.Block.{after, reply}
 use Rattle.ucon_model.specs.History.{History, changes, trace, trace_from}
-use Rattle.ucon_model.specs.Plain.{PlainPolicy, PlainReply}
+use Rattle.ucon_model.specs.Plain.{PlainPolicy}
 use Rattle.ucon_model.specs.Views.{reply_of}
 use Rattle.ucon_board.specs.Board.{Board, GoesOn, Written, opening_state, place_of, state_in}
 use Rattle.ucon_board.specs.States.{IsTrueOf, ShowsFirst, state_after}
@@ -30,7 +30,7 @@ use Rattle.ucon_store.specs.Starts.{IsStart}
 use Rattle.ucon_store.specs.Steps.{HasFailedBehind, IsPlacedBehind}
 use Rattle.ucon_store.specs.Whole.{IsFront, trace_behind}
 use Rattle.ucon_client.specs.Boarded.{IsOfSteps, IsShownBy, Publish, Publishes, ShowsBehind, ShowsStore, identity, known_by}
-use Rattle.ucon_client.specs.Events.{EndsAtMark, entries_in}
+use Rattle.ucon_client.specs.Events.{EndsAtMark}
 use Rattle.ucon_client.specs.Looks.{IsConfirmed}
 use Rattle.ucon_client.proofs.Listing.{ends_events, entries_in-events}
 

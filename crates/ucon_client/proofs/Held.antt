@@ -1,13 +1,11 @@
 -- The answers that a client holds, and what its turn makes of them.
 use Rattle.std.proofs.Common.{◌≡◌, ℕ, zero, suc, ◌+◌, ◌<◌, ◌≤◌, List, [], ◌∷◌, ◌++◌, Option, Some, None, map, length, get_or, drop, refl, sym, ap, ◌∙◌, subst, arith}
 use Rattle.std.proofs.lemmas.List.{append-nil, length-append, length-drop, map-append}
-use Rattle.ucon_base.specs.Elements.{Each, each_append, each_map}
+use Rattle.ucon_base.specs.Elements.{each_append, each_map}
 use Rattle.ucon_base.specs.Seen.{Seen}
-use Rattle.ucon_model.specs.declared.command.Command.{Command}
 use Rattle.ucon_model.specs.declared.command.Command.TheVariants as commands
-use Rattle.ucon_model.specs.declared.command.Entry.{Entry}
 use Rattle.ucon_model.specs.History.{History}
-use Rattle.ucon_model.specs.LegalRun.{Answered, placed}
+use Rattle.ucon_model.specs.LegalRun.{Answered}
 use Rattle.ucon_model.specs.Plain.{PlainPolicy}
 use Rattle.ucon_board.specs.Board.{Board, GoesOn, state_in}
 use Rattle.ucon_script.specs.declared.document.Line.{Line}
@@ -17,10 +15,10 @@ use Rattle.ucon_client.specs.declared.looks.Looks.{Looks}
 use Rattle.ucon_client.specs.declared.part.Part.{Part}
 use Rattle.ucon_client.specs.Answers.{AreHeld, IsPart, answer_of, entry_of, held_in, told_of}
 use Rattle.ucon_client.specs.Clients.{AreRight, answered}
-use Rattle.ucon_client.specs.Looks.{HasReached, IsConfirmed, IsRead, IsUpTo, Look, Rise, answered_look, last_place}
+use Rattle.ucon_client.specs.Looks.{HasReached, IsConfirmed, IsRead, IsUpTo, Look, answered_look, last_place}
 use Rattle.ucon_client.specs.Reading.{GoesOnReading, HasRead, HoldsOn}
 use Rattle.ucon_client.proofs.Counting.{answered_next, answered_none, line_at}
-use Rattle.ucon_client.proofs.Holding.{LooksTell, last_above, last_more, looks_are_right, reached_on, read_on, rise_more, true_in, wider}
+use Rattle.ucon_client.proofs.Holding.{LooksTell, last_more, looks_are_right, reached_on, read_on, rise_more, true_in, wider}
 
 -- ---- one look more
 

@@ -1,7 +1,7 @@
 -- What a turn makes of a client's answers.
-use Rattle.std.proofs.Common.{◌≡◌, ℕ, Bool, zero, suc, ◌+◌, ◌<◌, ◌≤◌, true, List, [], ◌∷◌, ◌++◌, Option, Some, None, map, length, drop, get_or, refl, sym, ap, ◌∙◌, subst, inl, arith}
+use Rattle.std.proofs.Common.{◌≡◌, ℕ, Bool, ◌+◌, ◌<◌, ◌≤◌, true, List, [], ◌∷◌, ◌++◌, Option, Some, None, map, length, get_or, refl, sym, ap, ◌∙◌, subst, inl, arith}
 use Rattle.std.specs.Prelude.{IfSome, option_map}
-use Rattle.std.proofs.lemmas.List.{append-nil, append_assoc, length-append}
+use Rattle.std.proofs.lemmas.List.{length-append}
 use Rattle.ucon_base.specs.Elements.{Each}
 use Rattle.ucon_base.specs.Seen.{Seen}
 use Rattle.ucon_turn.specs.Lists.{Continues, ByOthers, continues_refl}
@@ -15,17 +15,15 @@ use Rattle.ucon_script.specs.declared.document.Line.{Line}
 use Rattle.ucon_store.specs.declared.event.Event.{Event}
 use Rattle.ucon_store.specs.declared.event.Event.TheVariants.{Done}
 use Rattle.ucon_store.specs.Events.{number_of}
-use Rattle.ucon_store.specs.Kept.{Kept}
 use Rattle.ucon_store.specs.Whole.{IsFront}
 use Rattle.ucon_client.specs.declared.answer.Answer.{Answer}
-use Rattle.ucon_client.specs.declared.boarded.SharedBase.{SharedBase}
 use Rattle.ucon_client.specs.declared.looks.Looks.{Looks}
 use Rattle.ucon_client.specs.declared.part.Part.{Part}
-use Rattle.ucon_client.specs.Answers.{AnswersOne, AreHeld, HoldsLooks, IsLedTo, IsPart, IsReaderAt, Keeps, Serves, ServesWith, answer_of, entry_of, held_by, held_in, taken, told_of}
+use Rattle.ucon_client.specs.Answers.{AreHeld, HoldsLooks, IsLedTo, IsPart, IsReaderAt, Keeps, Serves, ServesWith, answer_of, entry_of, held_in, taken, told_of}
 use Rattle.ucon_client.specs.Boarded.{Sharing, identity}
 use Rattle.ucon_client.specs.Clients.{AreRight, Steps, answered}
 use Rattle.ucon_client.specs.Events.{EndsAtMark}
-use Rattle.ucon_client.specs.Looks.{HasReached, IsConfirmed}
+use Rattle.ucon_client.specs.Looks.{HasReached}
 use Rattle.ucon_client.specs.Steps.{HasAnswered, HasConfirmed, IsOfBase, base_of}
 use Rattle.ucon_client.proofs.Counting.{answered_next}
 use Rattle.ucon_client.specs.Reading.{HoldsOn}

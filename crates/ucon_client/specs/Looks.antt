@@ -1,9 +1,8 @@
 -- Looks that were read off a board, and wait to be confirmed.
-use Rattle.std.specs.Prelude.{◌≡◌, ℕ, ◌+◌, ◌≤◌, List, [], ◌∷◌, map, length, drop, take, Option, Some, None, ⊤}
+use Rattle.std.specs.Prelude.{◌≡◌, ℕ, ◌≤◌, List, [], ◌∷◌, length, take, Option, ⊤}
 use Rattle.ucon_base.specs.Elements.{Each}
 use Rattle.ucon_model.specs.declared.command.Caller.{Caller}
 use Rattle.ucon_model.specs.declared.command.Command.TheVariants as commands
-use Rattle.ucon_model.specs.declared.command.Entry.{Entry}
 use Rattle.ucon_model.specs.declared.session.SessionState.{SessionState}
 use Rattle.ucon_model.specs.History.{History, trace}
 use Rattle.ucon_model.specs.LegalRun.{Answer as Told, Answered, placed, no_memory, disk_fault, stopped}

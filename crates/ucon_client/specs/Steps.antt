@@ -2,7 +2,7 @@
 use Rattle.std.specs.Prelude.{◌≡◌, ◌++◌, Bool, true, List, map, Option, Some, None, IfSome, option_map}
 use Rattle.ucon_model.specs.History.{History}
 use Rattle.ucon_model.specs.Plain.{PlainPolicy}
-use Rattle.ucon_board.specs.Board.{Board, GoesOn}
+use Rattle.ucon_board.specs.Board.{GoesOn}
 use Rattle.ucon_script.specs.declared.document.Line.{Line}
 use Rattle.ucon_store.specs.declared.event.Event.{Event}
 use Rattle.ucon_store.specs.declared.event.Event.TheVariants.{Done}

@@ -1,5 +1,4 @@
 use Rattle.std.proofs.Common.{◌≡◌, ◌++◌, map, sym, ap, subst, ◌∙◌}
-use Rattle.std.specs.Prelude.{Option, Some}
 use Rattle.ucon_board.specs.Board.{Board, Written}
 use Rattle.ucon_store.specs.declared.event.Event.TheVariants.{Done}
 use Rattle.ucon_store.specs.Events.{events_of}

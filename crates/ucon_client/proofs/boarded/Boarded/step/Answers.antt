@@ -3,7 +3,6 @@ use Rattle.std.specs.Prelude.{option_map}
 use Rattle.ucon_model.specs.declared.command.Entry.{Entry}
 use Rattle.ucon_model.specs.History.{History}
 use Rattle.ucon_model.specs.Plain.{PlainPolicy}
-use Rattle.ucon_board.specs.Board.{Known}
 use Rattle.ucon_syntax.specs.Policies.{accepted}
 use Rattle.ucon_store.specs.declared.event.Event.{Event}
 use Rattle.ucon_store.specs.declared.event.Event.TheVariants.{Done}

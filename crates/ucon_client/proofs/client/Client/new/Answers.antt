@@ -1,5 +1,5 @@
 use Rattle.std.proofs.Common.{◌≡◌, [], sym, subst, ap}
-use Rattle.std.specs.Prelude.{IfSome, Option, Some}
+use Rattle.std.specs.Prelude.{IfSome, Option}
 use Rattle.ucon_board.specs.Board.{Known}
 use Rattle.ucon_client.specs.declared.looks.Looks.{Looks}
 use Rattle.ucon_client.specs.Answers.{HoldsLooks, IsReaderAt, held_by}
