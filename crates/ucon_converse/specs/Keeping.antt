@@ -70,8 +70,8 @@ pub record GivesReply {D : Type 0} (seen : D → DiskSeen) (x y : Answering D) (
   pub said_at : (P : PlainPolicy) (T : Trace) → accepted x.store.policy ≡ Some P → IsStart P x.store.point x.store.before T
       → GivesReplyAtBy accepted P (reached_by P T x.store) (reached_by P T y.store) line reply
 
--- From one store to the next these lines were given these replies, one after the other, behind each history that leads to where the first one begins,
--- and behind each trace.
+-- From one store to the next these lines were given these replies, one after the other. That holds behind each history that leads to where the first
+-- one begins, and behind each trace.
 pub record GivesReplies {D : Type 0} (seen : D → DiskSeen) (x y : Answering D) (told : List Told) : Type 0 where
   pub keeps : Keeps seen x y
   pub said : (P : PlainPolicy) (G : History) (places : List ℕ) → accepted x.store.policy ≡ Some P → IsFront P x.store G

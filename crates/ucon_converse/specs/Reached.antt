@@ -59,7 +59,7 @@ IsNextAt P x y e disk_fault =
     (changes (reply P x.actions e.caller e.command) ≡ true) × (y ≡ record { actions = x.actions; entries = x.entries; failed = Some (e ∷ []) })
 IsNextAt P x y e stopped = ⊥
 
--- It was on its way to the disk together with the step that met the disk fault: it would have changed something behind the entries in doubt, and is
+-- It was on its way to the disk together with the step that met the disk fault. It would have changed something behind the entries in doubt, and is
 -- in doubt with them.
 pub record JoinsDoubtAt (P : PlainPolicy) (x y : Reached) (t : Answered) : Type 0 where
   pub doubt : History

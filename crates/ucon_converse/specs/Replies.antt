@@ -39,7 +39,7 @@ pub record LeadsOn (P : PlainPolicy) (before after : Standing) (told : List Answ
   pub points : after.points ≡ before.points
   pub tried : after.tried ≡ before.tried
 
--- It was on its way to the disk together with the step that met the disk fault: it would have changed something behind the entries in doubt, and is
+-- It was on its way to the disk together with the step that met the disk fault. It would have changed something behind the entries in doubt, and is
 -- in doubt with them. Either all of them are on the disk or none.
 pub record JoinsDoubt (P : PlainPolicy) (before after : Standing) (t : Answered) : Type 0 where
   pub doubt : History

@@ -73,8 +73,8 @@ IsLeftUnopened reads outcome fault bytes before after =
     IsUntoldBy outcome before after × IsUnopenedBy reads fault (policy_part bytes) before.disk after.disk
 
 -- What holds by how the run ended, if these bytes of the document were read. What is met behind the divider ends the run only once the fed lines were
--- answered and their output is written. A fault of the sink stands before one of the disk, and that before what stopped the script: a fault of
--- the source, too many bytes, a line that is refused. Without memory nothing is written.
+-- answered and their output is written. A fault of the sink stands before one of the disk, and both before what stopped the script. That is a fault of
+-- the source, too many bytes, or a line that is refused. Without memory nothing is written.
 abbrev pub HasLivedBy : PolicyReading → Outcome → (bytes read : Bytes) → (before after : Seen) → Type 0
 HasLivedBy reads Done bytes read before after = IsLivedWhole reads Done bytes read before after
 HasLivedBy reads (Script f) bytes read before after = IsLivedWhole reads (Script f) bytes read before after
