@@ -7,14 +7,12 @@ use Rattle.std.proofs.lemmas.Bool.{eqb-true}
 use Rattle.ucon_base.specs.declared.no_memory.NoMemory.{NoMemory}
 use Rattle.ucon_base.specs.Elements.{Each, each_append, each_map, each_parts}
 use Rattle.ucon_flow.specs.Seen.{SourceSeen}
-use Rattle.ucon_syntax.specs.Policies.{accepted}
 use Rattle.ucon_turn.specs.Lists.{Continues, Has}
 use Rattle.ucon_turn.specs.Turns.{Opening, Knowledge}
 use Rattle.ucon_model.specs.declared.command.Entry.{Entry}
 use Rattle.ucon_model.specs.Document.{ScriptLine, entries_of, entry_of as said_entry}
-use Rattle.ucon_model.specs.History.{History}
-use Rattle.ucon_model.specs.LegalRun.{Answered, IsLegalRun, history_made, own_answers}
-use Rattle.ucon_model.specs.Plain.{PlainPolicy}
+use Rattle.ucon_model.specs.History.{History, said as said_by}
+use Rattle.ucon_model.specs.LegalRun.{Answered, history_made}
 use Rattle.ucon_script.specs.declared.coming_script.ComingScript.{ComingScript}
 use Rattle.ucon_script.specs.declared.document.Line.{Line}
 use Rattle.ucon_script.specs.declared.script_stop.ScriptStop.{ScriptStop}
@@ -23,18 +21,19 @@ use Rattle.ucon_store.specs.declared.event.Event.{Event}
 use Rattle.ucon_store.specs.declared.event.Event.TheVariants.{Done}
 use Rattle.ucon_store.specs.Events.{events_of, number_of}
 use Rattle.ucon_store.specs.Kept.{Kept}
-use Rattle.ucon_store.specs.Whole.{IsFront}
 use Rattle.ucon_client.specs.declared.part.Part.{Part}
-use Rattle.ucon_client.specs.Answers.{IsAnswered, entry_of, answer_of, number, served_of, told_in, told_of}
-use Rattle.ucon_client.specs.Clients.{AreJoined, AreRight, AreRising, Served, faulted, told_by}
+use Rattle.ucon_client.specs.Answers.{IsAnswered, SaysFromStore, entry_of, answer_of, number, served_of, told_in, told_of}
+use Rattle.ucon_client.specs.Clients.{AreJoined, AreRight, AreRising, Replies, Served, faulted, told_by}
 use Rattle.ucon_client.specs.Dividing.{by_client, lines_below, own_lines}
 use Rattle.ucon_client.specs.Feeding.{AreEnded, AreFed, FeedsUpTo, HasFed, HasFedTo, IsFedUpTo, ended, fed_with, own}
 use Rattle.ucon_client.specs.declared.rule.Told.{Told}
 use Rattle.ucon_client.specs.Inbox.{Fed, nothing}
 use Rattle.ucon_client.specs.Live.{AreFrom, AreJudged, AreRunOver, AreServed, HasLived, HasServed, HasTaken, HaveTaken, as_of}
 use Rattle.ucon_client.specs.Boarded.{IsMarkOf, IsOfSteps, Sharing}
+use Rattle.ucon_client.proofs.After.{legal_behind_trace, legal_run, made_behind_trace, says_behind_history, so_behind_trace}
 use Rattle.ucon_client.proofs.Ending.{answered_lines, closed_legal}
 use Rattle.ucon_client.proofs.LeftOut.{left_lines, left_right, none_left_out, with_left_out}
+use Rattle.ucon_client.proofs.Together.{IsRunBy}
 
 -- ---- one client's lines
 
@@ -139,14 +138,14 @@ module _ {Z : Type 0} where
   served_numbers (p ∷ parts) [] short h = absurd h
   served_numbers (p ∷ parts) (taken ∷ fed) short h = ap (λ (l : List ℕ). p.number ∷ l) (served_numbers parts fed short h.1)
 
-  served_right : (P : PlainPolicy) (G : History) (seen : List Event) (parts : List Part) (fed : List (List (Box Line Z))) (short : Option NoMemory)
-      (h : HaveTaken parts fed short) → Each (λ c. AreRight P c.number G seen c.told) (map served_of parts)
-      → Each (λ c. AreRight P c.number G seen c.told) (served_all parts fed short h)
-  served_right P G seen [] fed short h r = tt
-  served_right P G seen (p ∷ parts) [] short h r = absurd h
-  served_right P G seen (p ∷ parts) (taken ∷ fed) short h r = (
-    left_right P p.number G seen (told_of p) (map entry_of h.0.left_out) r.0 (left_callers p taken short h.0),
-    served_right P G seen parts fed short h.1 r.1,
+  served_right : (says : Replies) (G : History) (seen : List Event) (parts : List Part) (fed : List (List (Box Line Z))) (short : Option NoMemory)
+      (h : HaveTaken parts fed short) → Each (λ c. AreRight says c.number G seen c.told) (map served_of parts)
+      → Each (λ c. AreRight says c.number G seen c.told) (served_all parts fed short h)
+  served_right says G seen [] fed short h r = tt
+  served_right says G seen (p ∷ parts) [] short h r = absurd h
+  served_right says G seen (p ∷ parts) (taken ∷ fed) short h r = (
+    left_right says p.number G seen (told_of p) (map entry_of h.0.left_out) r.0 (left_callers p taken short h.0),
+    served_right says G seen parts fed short h.1 r.1,
   )
 
   served_back : (back : List ℕ) (parts : List Part) (fed : List (List (Box Line Z))) (short : Option NoMemory) (h : HaveTaken parts fed short)
@@ -161,12 +160,12 @@ module _ {Z : Type 0} where
   seats_served (p ∷ parts) [] short h = absurd h
   seats_served (p ∷ parts) (taken ∷ fed) short h = ap (λ (l : List ℕ). (p.number + 1) ∷ l) (seats_served parts fed short h.1)
 
-  pub joined_all : (P : PlainPolicy) (G : History) (seen : List Event) (back : List ℕ) (parts : List Part) (fed : List (List (Box Line Z)))
-      (short : Option NoMemory) (h : HaveTaken parts fed short) → AreJoined P G seen back (map served_of parts)
-      → AreJoined P G seen back (served_all parts fed short h)
-  joined_all P G seen back parts fed short h j = record {
+  pub joined_all : (says : Replies) (G : History) (seen : List Event) (back : List ℕ) (parts : List Part) (fed : List (List (Box Line Z)))
+      (short : Option NoMemory) (h : HaveTaken parts fed short) → AreJoined says G seen back (map served_of parts)
+      → AreJoined says G seen back (served_all parts fed short h)
+  joined_all says G seen back parts fed short h j = record {
     ends = j.ends;
-    right = served_right P G seen parts fed short h j.right;
+    right = served_right says G seen parts fed short h j.right;
     rising = subst AreRising (served_numbers parts fed short h) j.rising;
     back = served_back back parts fed short h j.back;
     known = subst (λ l. Each (Has l) back) (seats_served parts fed short h) j.known;
@@ -275,8 +274,8 @@ module _ {Z : Type 0} where
 module _ {D Z : Type 0} (turn : Opening (Sharing D)) (seat : Knowledge (Sharing D) Event) (parts : List Part) (fed : List (List (Box Line Z))) (short : Option NoMemory)
     (h : HaveTaken parts fed short) (lines : List (Box Line Z)) where
   pub served_so : length parts ≡ 64 → fed ≡ owns_from 0 (length parts) lines → AreFrom 0 (map number parts) → Each IsAnswered parts
-      → ((P : PlainPolicy) (H : History) → accepted turn.opened.store.policy ≡ Some P → IsFront P turn.opened.store H
-      → AreJoined P (H ++ turn.opened.store.entries) (map Done H ++ seat.seen) seat.taken (map served_of parts))
+      → ((says : Replies) (H : History) → SaysFromStore turn.opened.store says H
+      → AreJoined says (H ++ turn.opened.store.entries) (map Done H ++ seat.seen) seat.taken (map served_of parts))
       → AreServed turn seat (said lines) parts short
   served_so count is from all joined =
       let clients : List Served = served_all parts fed short h in
@@ -285,8 +284,8 @@ module _ {D Z : Type 0} (turn : Opening (Sharing D)) (seat : Knowledge (Sharing 
         clients = clients;
         lines_are = told;
         callers = told_callers lines (told_by clients) told;
-        joined = λ P H is_policy front.
-            joined_all P (H ++ turn.opened.store.entries) (map Done H ++ seat.seen) seat.taken parts fed short h (joined P H is_policy front);
+        joined = λ says H from.
+            joined_all says (H ++ turn.opened.store.entries) (map Done H ++ seat.seen) seat.taken parts fed short h (joined says H from);
         whole = λ none. (all, told_whole parts fed short h none);
       }
 
@@ -296,20 +295,24 @@ module _ {S D : Type 0} (source : S → SourceSeen) (script judged : ComingScrip
     (parts : List Part) (short : Option NoMemory) (stop : Result (Unit {0}) ScriptStop) (store closed : Kept D) (same : turn.opened.store ≡ store)
     (none : store.mark ≡ None) (list : events_of closed ≡ seat.seen)
     (callers : Continues (λ e. Has (0 ∷ seat.taken) (number_of e)) (events_of turn.opened.store) (events_of closed)) (by_steps : IsOfSteps closed.mark) where
-  run_closed : (clients : List Served) → ((P : PlainPolicy) (H : History) → accepted turn.opened.store.policy ≡ Some P → IsFront P turn.opened.store H
-      → AreJoined P (H ++ turn.opened.store.entries) (map Done H ++ seat.seen) seat.taken clients) → AreRunOver store closed (told_by clients)
+  run_closed : (clients : List Served) → ((says : Replies) (H : History) → SaysFromStore turn.opened.store says H
+      → AreJoined says (H ++ turn.opened.store.entries) (map Done H ++ seat.seen) seat.taken clients) → AreRunOver store closed (told_by clients)
   run_closed clients joined = record {
-    legal = λ P H is front. (all P H is front).0;
-    made = λ P H is front. (all P H is front).1;
-    fault = λ P H is front. (all P H is front).2;
+    legal = λ P H is front. legal_run P (H ++ store.entries) told (all (said_by P) H (says_behind_history P store is H front)).0;
+    made = λ P H is front. (all (said_by P) H (says_behind_history P store is H front)).1;
+    legal_after = λ P T is starts. legal_behind_trace P store is T starts told (λ says H from. (all says H from).0);
+    made_after = λ P T is starts. made_behind_trace P store is T starts told closed.entries (λ says H from. (all says H from).1);
+    fault = λ P T is starts. so_behind_trace P store is T starts (IsMarkOf closed.mark (faulted told)) (λ says H from. (all says H from).2);
   }
     where
-      all : (P : PlainPolicy) (H : History) → accepted store.policy ≡ Some P → IsFront P store H
-          → IsLegalRun P own_answers (H ++ store.entries) (told_by clients) × (history_made (H ++ store.entries) (told_by clients) ≡ H ++ closed.entries)
-          × IsMarkOf closed.mark (faulted (told_by clients))
-      all P H is front =
-          closed_legal P H turn.opened.store store closed seat.seen seat.taken clients same none
-          (joined P H (ap (λ (s : Kept D). accepted s.policy) same ∙ is) (subst (λ (s : Kept D). IsFront P s H) (sym same) front)) list callers by_steps
+      told : List Answered
+      told = told_by clients
+
+      all : (says : Replies) (H : History) → SaysFromStore store says H
+          → IsRunBy says (H ++ store.entries) told × (history_made (H ++ store.entries) told ≡ H ++ closed.entries) × IsMarkOf closed.mark (faulted told)
+      all says H from =
+          closed_legal says H turn.opened.store store closed seat.seen seat.taken clients same none
+          (joined says H (subst (λ (s : Kept D). SaysFromStore s says H) (sym same) from)) list callers by_steps
 
   pub lived_so : HasServed source script judged first last turn seat parts short stop → (given : Kept D) → given ≡ closed
       → HasLived source script judged first last store given parts short stop

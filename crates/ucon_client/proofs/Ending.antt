@@ -2,10 +2,9 @@
 use Rattle.std.proofs.Common.{◌≡◌, ℕ, ◌+◌, ◌<◌, List, [], ◌∷◌, ◌++◌, None, map, length, get_or, suc, arith, refl, sym, ap, ◌∙◌, subst, Option}
 use Rattle.ucon_turn.specs.Lists.{Has, Continues}
 use Rattle.ucon_model.specs.History.{History}
-use Rattle.ucon_model.specs.Plain.{PlainPolicy}
 use Rattle.std.proofs.lemmas.List.{length-map, map-append}
 use Rattle.ucon_model.specs.declared.command.Entry.{Entry}
-use Rattle.ucon_model.specs.LegalRun.{Answer as Told, Answered, IsLegalRun, own_answers, history_made}
+use Rattle.ucon_model.specs.LegalRun.{Answer as Told, Answered, history_made}
 use Rattle.ucon_script.specs.declared.document.Line.{Line}
 use Rattle.ucon_store.specs.declared.event.Event.{Event}
 use Rattle.ucon_client.specs.declared.part.Part.{Part}
@@ -15,12 +14,12 @@ use Rattle.ucon_store.specs.Events.{events, events_behind, events_of, number_of}
 use Rattle.ucon_store.specs.Marks.{marked}
 use Rattle.ucon_client.specs.Boarded.{IsMarkOf, IsOfSteps}
 use Rattle.ucon_client.specs.Answers.{IsAnswered, IsPart, Keeps, answer_of, asked, entry_of, lines_in, number, told_in, told_of}
-use Rattle.ucon_client.specs.Clients.{AreRising, AreJoined, Served, answered, told_by, faulted}
+use Rattle.ucon_client.specs.Clients.{AreRising, AreJoined, Replies, Served, answered, told_by, faulted}
 use Rattle.ucon_base.specs.Elements.{Each, each_append}
 use Rattle.ucon_client.proofs.Counting.{same_by_place}
 use Rattle.ucon_client.proofs.Parts.{seat_number, all_back}
 use Rattle.ucon_client.proofs.Seats.{continues_behind}
-use Rattle.ucon_client.proofs.Together.{legal_together}
+use Rattle.ucon_client.proofs.Together.{IsRunBy, legal_together}
 
 map_map : {X Y Z : Type 0} (f : Y → Z) (g : X → Y) (xs : List X) → map f (map g xs) ≡ map (λ x. f (g x)) xs
 map_map f g [] = refl
@@ -62,12 +61,12 @@ each_part Q part_of [] h = tt
 each_part Q part_of (x ∷ xs) h = (h 0 x (omega arith), each_part Q part_of xs (λ k d lt. h (suc k) d (omega (arith, lt))))
 
 -- what closing the turn says of all clients, with a history before the store's own
-pub closed_legal : {D : Type 0} (P : PlainPolicy) (G : History) (opened store closed : Kept D) (seen : List Event) (taken : List ℕ) (clients : List Served)
-    → opened ≡ store → store.mark ≡ None → AreJoined P (G ++ opened.entries) (map Done G ++ seen) taken clients → events_of closed ≡ seen
+pub closed_legal : {D : Type 0} (says : Replies) (G : History) (opened store closed : Kept D) (seen : List Event) (taken : List ℕ) (clients : List Served)
+    → opened ≡ store → store.mark ≡ None → AreJoined says (G ++ opened.entries) (map Done G ++ seen) taken clients → events_of closed ≡ seen
     → Continues (λ e. Has (0 ∷ taken) (number_of e)) (events_of opened) (events_of closed) → IsOfSteps closed.mark
-    → IsLegalRun P own_answers (G ++ store.entries) (told_by clients) × (history_made (G ++ store.entries) (told_by clients) ≡ G ++ closed.entries)
+    → IsRunBy says (G ++ store.entries) (told_by clients) × (history_made (G ++ store.entries) (told_by clients) ≡ G ++ closed.entries)
     × IsMarkOf closed.mark (faulted (told_by clients))
-closed_legal {D} P G opened store closed seen taken clients same none joined list callers by_steps =
+closed_legal {D} says G opened store closed seen taken clients same none joined list callers by_steps =
     let failed : Option Entry = by_steps.failed in
     let done : List Event = map Done G in
     let theirs : Event → Type 0 = λ e. Has (0 ∷ taken) (number_of e) in
@@ -76,8 +75,8 @@ closed_legal {D} P G opened store closed seen taken clients same none joined lis
     let last : done ++ events_of closed ≡ events (G ++ closed.entries) (marked failed) =
     sym (events_behind G closed.entries closed.mark) ∙ ap (events (G ++ closed.entries)) by_steps.is in
     let all =
-    legal_together P (G ++ store.entries) (G ++ closed.entries) failed taken clients
-    (subst (λ (z : Kept D × List Event). AreJoined P (G ++ z.0.entries) z.1 taken clients)
+    legal_together says (G ++ store.entries) (G ++ closed.entries) failed taken clients
+    (subst (λ (z : Kept D × List Event). AreJoined says (G ++ z.0.entries) z.1 taken clients)
     (λ i. (same i, (ap (λ (l : List Event). done ++ l) (sym list) ∙ last) i)) joined)
     (subst (λ (z : List Event × List Event). Continues theirs z.0 z.1) (λ i. (first i, last i))
     (continues_behind theirs done (events_of opened) (events_of closed) callers)) in

@@ -2,14 +2,16 @@
 use Rattle.std.proofs.Common.{◌≡◌, ℕ, zero, suc, ◌+◌, ◌≤◌, Bool, true, false, List, [], ◌∷◌, ◌++◌, Option, Some, None, map, length, take, refl, sym, ap, ◌∙◌, subst, arith, append_assoc, true≢false}
 use Rattle.std.specs.Prelude.{if◌then◌else◌, option_map, Result, Ok, Err, IfOk, IsErrOf}
 use Rattle.std.proofs.lemmas.List.{append-nil, length-append}
+use Rattle.ucon_model.specs.declared.command.Caller.{Caller}
+use Rattle.ucon_model.specs.declared.command.Command.TheVariants as commands
 use Rattle.ucon_model.specs.declared.command.Entry.{Entry}
 use Rattle.ucon_model.specs.Action.{Trace}
 use Rattle.ucon_model.specs.Block.{after, reply}
-use Rattle.ucon_model.specs.History.{History, changes, trace, trace_from}
-use Rattle.ucon_model.specs.Plain.{PlainPolicy, PlainReply}
+use Rattle.ucon_model.specs.History.{History, changes, trace_from}
+use Rattle.ucon_model.specs.Plain.{PlainPolicy}
 use Rattle.ucon_model.specs.Views.{reply_of}
 use Rattle.ucon_board.specs.Board.{Board, GoesOn, Written, opening_state, place_of, state_in}
-use Rattle.ucon_board.specs.States.{IsTrueOf, ShowsFirst, state_after}
+use Rattle.ucon_board.specs.States.{IsTrueOf, ShowsFirst, look_reply, state_after}
 use Rattle.ucon_model.specs.declared.session.SessionRow.{SessionRow}
 use Rattle.ucon_model.specs.declared.session.SessionState.{SessionState}
 use Rattle.ucon_state.specs.Following.{Follows}
@@ -28,9 +30,11 @@ use Rattle.ucon_store.specs.Kept.{Kept}
 use Rattle.ucon_store.specs.Marks.{marked}
 use Rattle.ucon_store.specs.Starts.{IsStart}
 use Rattle.ucon_store.specs.Steps.{HasFailedBehind, IsPlacedBehind}
-use Rattle.ucon_store.specs.Whole.{IsFront, trace_behind}
+use Rattle.ucon_store.specs.Whole.{trace_behind}
+use Rattle.ucon_client.specs.Answers.{SaysFromStore}
+use Rattle.ucon_client.specs.Clients.{Replies}
 use Rattle.ucon_client.specs.Boarded.{IsOfSteps, IsShownBy, Publish, Publishes, ShowsBehind, ShowsStore, identity, known_by}
-use Rattle.ucon_client.specs.Events.{EndsAtMark, entries_in}
+use Rattle.ucon_client.specs.Events.{EndsAtMark}
 use Rattle.ucon_client.specs.Looks.{IsConfirmed}
 use Rattle.ucon_client.proofs.Listing.{ends_events, entries_in-events}
 
@@ -166,7 +170,7 @@ same_board (Err e) w v is = ap (λ (o : Option Written). option_map identity (op
 
 -- ---- a confirmation
 
-take_seam : (xs ys : History) (n k : ℕ) → k ≡ length xs + n → take k (xs ++ ys) ≡ xs ++ take n ys
+pub take_seam : (xs ys : History) (n k : ℕ) → k ≡ length xs + n → take k (xs ++ ys) ≡ xs ++ take n ys
 take_seam [] ys n k e = ap (λ (j : ℕ). take j ys) (omega (arith, e))
 take_seam (x ∷ xs) ys n zero e = absurd (omega (arith, e))
 take_seam (x ∷ xs) ys n (suc k) e = ap (λ (l : History). x ∷ l) (take_seam xs ys n k (omega (arith, e)))
@@ -176,17 +180,21 @@ pub log_ends : {D : Type 0} (s : Kept D) → IsOfSteps s.mark → (G : History) 
 log_ends s steps G =
     subst EndsAtMark (sym (sym (events_behind G s.entries s.mark) ∙ ap (events (G ++ s.entries)) steps.is)) (ends_events (G ++ s.entries) steps.failed)
 
+-- what a look is answered, by the state of its session, as the law says it
+abbrev pub LooksTell : Type 0
+LooksTell = (P : PlainPolicy) (T : Trace) (caller : Caller) (n : ℕ) → reply P T caller (commands.Look n) ≡ look_reply n (state_after T n)
+
 -- what was ever read off a board that shows some entries, as the law says it
 abbrev pub AreTrue : Type 0
 AreTrue = (P : PlainPolicy) (T : Trace) (H : History) (b w : Board) (behind : Bool) → ShowsFirst P T H w behind → GoesOn b w → IsTrueOf P T H b
 
-module _ {D : Type 0} (true_of : AreTrue) (P : PlainPolicy) (G : History) (s : Kept D) (w : Board) (steps : IsOfSteps s.mark)
-    (is : accepted s.policy ≡ Some P) (front : IsFront P s G) (shown : ShowsStore s w) where
+module _ {D : Type 0} (true_of : AreTrue) (tell : LooksTell) (says : Replies) (G : History) (s : Kept D) (w : Board) (steps : IsOfSteps s.mark)
+    (from : SaysFromStore s says G) (shown : ShowsStore s w) where
   log_is : map Done G ++ events_of s ≡ events (G ++ s.entries) (marked steps.failed)
   log_is = sym (events_behind G s.entries s.mark) ∙ ap (events (G ++ s.entries)) steps.is
 
-  abbrev Here : ShowsBehind P (trace P G) s w
-  Here = shown P (trace P G) is front.starts
+  abbrev Here : ShowsBehind from.P from.begun s w
+  Here = shown from.P from.begun from.accepts from.starts
 
   all : G ++ s.entries ≡ G ++ (Here.opened ++ Here.since)
   all = ap (λ (l : History). G ++ l) Here.entries
@@ -195,11 +203,11 @@ module _ {D : Type 0} (true_of : AreTrue) (P : PlainPolicy) (G : History) (s : K
   long = omega (arith, ap length all, length-append G (Here.opened ++ Here.since), length-append Here.opened Here.since)
 
   module _ (b : Board) (on : GoesOn b w) where
-    abbrev Truth : IsTrueOf P (trace_from P (trace P G) Here.opened) Here.since b
-    Truth = true_of P (trace_from P (trace P G) Here.opened) Here.since b w true Here.shows on
+    abbrev Truth : IsTrueOf from.P (trace_from from.P from.begun Here.opened) Here.since b
+    Truth = true_of from.P (trace_from from.P from.begun Here.opened) Here.since b w true Here.shows on
 
     place : place_of b ≡ length G + (length Here.opened + length b.replies)
-    place = omega (arith, on.opened_at, Here.opened_at, front.count)
+    place = omega (arith, on.opened_at, Here.opened_at, from.count)
 
     within : place_of b ≤ length (G ++ s.entries)
     within = omega (arith, place, long, Truth.within)
@@ -210,18 +218,23 @@ module _ {D : Type 0} (true_of : AreTrue) (P : PlainPolicy) (G : History) (s : K
         ∙ (take_seam G (Here.opened ++ Here.since) (length Here.opened + length b.replies) (place_of b) place
         ∙ ap (λ (l : History). G ++ l) (take_seam Here.opened Here.since (length b.replies) (length Here.opened + length b.replies) refl))
 
-    states : (n : ℕ) → state_in b n ≡ state_after (trace P (take (place_of b) (G ++ s.entries))) n
-    states n =
-        Truth.states n
-        ∙ ap (λ (T : Trace). state_after T n) (sym (ap (trace P) first
-        ∙ (trace_append P [] G (Here.opened ++ take (length b.replies) Here.since)
-        ∙ trace_append P (trace P G) Here.opened (take (length b.replies) Here.since))))
+    states : (caller : Caller) (n : ℕ) → look_reply n (state_in b n) ≡ says (take (place_of b) (G ++ s.entries)) caller (commands.Look n)
+    states caller n =
+        let shown_first : History = take (length b.replies) Here.since in
+        let behind : Trace = trace_from from.P (trace_from from.P from.begun Here.opened) shown_first in
+        ap (look_reply n) (Truth.states n)
+        ∙ (sym (tell from.P behind caller n)
+        ∙ (ap (λ (T : Trace). reply from.P T caller (commands.Look n)) (sym (trace_append from.P from.begun Here.opened shown_first))
+        ∙ (sym (from.replies (Here.opened ++ shown_first) caller (commands.Look n))
+        ∙ ap (λ (K : History). says K caller (commands.Look n)) (sym first))))
 
-  pub confirmed : IsConfirmed P (map Done G ++ events_of s) w
+  pub confirmed : IsConfirmed says (map Done G ++ events_of s) w
   confirmed =
       let H : History = G ++ s.entries in
-      subst (λ (log : List Event). IsConfirmed P log w) (sym log_is) (record {
+      subst (λ (log : List Event). IsConfirmed says log w) (sym log_is) (record {
         ends = ends_events H steps.failed;
         within = λ b on. subst (λ (l : History). place_of b ≤ length l) (sym (entries_in-events H steps.failed)) (within b on);
-        states = λ b on n. subst (λ (l : History). state_in b n ≡ state_after (trace P (take (place_of b) l)) n) (sym (entries_in-events H steps.failed)) (states b on n);
+        states = λ b on caller n.
+            subst (λ (l : History). look_reply n (state_in b n) ≡ says (take (place_of b) l) caller (commands.Look n)) (sym (entries_in-events H steps.failed))
+            (states b on caller n);
       })

@@ -1,14 +1,11 @@
 -- The answers that a client holds, and what its turn makes of them.
 use Rattle.std.proofs.Common.{◌≡◌, ℕ, zero, suc, ◌+◌, ◌<◌, ◌≤◌, List, [], ◌∷◌, ◌++◌, Option, Some, None, map, length, get_or, drop, refl, sym, ap, ◌∙◌, subst, arith}
 use Rattle.std.proofs.lemmas.List.{append-nil, length-append, length-drop, map-append}
-use Rattle.ucon_base.specs.Elements.{Each, each_append, each_map}
+use Rattle.ucon_base.specs.Elements.{each_append, each_map}
 use Rattle.ucon_base.specs.Seen.{Seen}
-use Rattle.ucon_model.specs.declared.command.Command.{Command}
 use Rattle.ucon_model.specs.declared.command.Command.TheVariants as commands
-use Rattle.ucon_model.specs.declared.command.Entry.{Entry}
 use Rattle.ucon_model.specs.History.{History}
-use Rattle.ucon_model.specs.LegalRun.{Answered, placed}
-use Rattle.ucon_model.specs.Plain.{PlainPolicy}
+use Rattle.ucon_model.specs.LegalRun.{Answered}
 use Rattle.ucon_board.specs.Board.{Board, GoesOn, state_in}
 use Rattle.ucon_script.specs.declared.document.Line.{Line}
 use Rattle.ucon_store.specs.declared.event.Event.{Event}
@@ -16,11 +13,11 @@ use Rattle.ucon_client.specs.declared.answer.Answer.{Answer}
 use Rattle.ucon_client.specs.declared.looks.Looks.{Looks}
 use Rattle.ucon_client.specs.declared.part.Part.{Part}
 use Rattle.ucon_client.specs.Answers.{AreHeld, IsPart, answer_of, entry_of, held_in, told_of}
-use Rattle.ucon_client.specs.Clients.{AreRight, answered}
-use Rattle.ucon_client.specs.Looks.{HasReached, IsConfirmed, IsRead, IsUpTo, Look, Rise, answered_look, last_place}
+use Rattle.ucon_client.specs.Clients.{AreRight, Replies, answered}
+use Rattle.ucon_client.specs.Looks.{HasReached, IsConfirmed, IsRead, IsUpTo, Look, answered_look, last_place}
 use Rattle.ucon_client.specs.Reading.{GoesOnReading, HasRead, HoldsOn}
 use Rattle.ucon_client.proofs.Counting.{answered_next, answered_none, line_at}
-use Rattle.ucon_client.proofs.Holding.{LooksTell, last_above, last_more, looks_are_right, reached_on, read_on, rise_more, true_in, wider}
+use Rattle.ucon_client.proofs.Holding.{last_more, looks_are_right, reached_on, read_on, rise_more, true_in, wider}
 
 -- ---- one look more
 
@@ -104,13 +101,13 @@ pub told_more : (was now : Part) (held : List Answer) → now.lines ≡ was.line
 told_more was now held lines is =
     (λ i. answered (map entry_of (lines i).items) (map answer_of (is i))) ∙ answered_more was.lines.items was.answers.items held
 
-pub confirmed_right : LooksTell → (P : PlainPolicy) (H : History) (log : List Event) (p : Part) (old new : Looks)
-    → AreRight P p.number H log (told_of p) → AreHeld p old → GoesOn old.reader.board new.reader.board → IsConfirmed P log new.reader.board
-    → length H ≤ new.reader.board.opened_at → AreRight P p.number H log (told_of p ++ held_in p old.held.items)
-confirmed_right tell P H log p old new right h on c le =
-    subst (λ (l : List Answered). AreRight P p.number H log (told_of p ++ l)) (sym h.are)
-    (looks_are_right tell P p.number H log (told_of p) h.from h.looks right h.reached h.own
-    (true_in P H log new.reader.board c le h.looks (read_on old.reader.board new.reader.board on h.looks h.read)) h.rise)
+pub confirmed_right : (says : Replies) (H : History) (log : List Event) (p : Part) (old new : Looks)
+    → AreRight says p.number H log (told_of p) → AreHeld p old → GoesOn old.reader.board new.reader.board → IsConfirmed says log new.reader.board
+    → length H ≤ new.reader.board.opened_at → AreRight says p.number H log (told_of p ++ held_in p old.held.items)
+confirmed_right says H log p old new right h on c le =
+    subst (λ (l : List Answered). AreRight says p.number H log (told_of p ++ l)) (sym h.are)
+    (looks_are_right says p.number H log (told_of p) h.from h.looks right h.reached h.own
+    (true_in says H log new.reader.board c le h.looks (read_on old.reader.board new.reader.board on h.looks h.read)) h.rise)
 
 pub all_reached : (p : Part) (l : Looks) (k : ℕ) → AreHeld p l → l.last ≤ k → HasReached k (told_of p ++ held_in p l.held.items)
 all_reached p l k h le =

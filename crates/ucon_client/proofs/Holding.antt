@@ -1,28 +1,19 @@
 -- Held looks among a client's answers.
-use Rattle.std.proofs.Common.{◌≡◌, ◌≢◌, ℕ, ◌+◌, ◌-◌, ◌≤◌, Bool, true, false, true≢false, List, [], ◌∷◌, ◌++◌, map, length, take, refl, sym, ap, ◌∙◌, subst, arith, append_assoc}
-use Rattle.std.specs.Prelude.{IsTrue, Option, Some, None, option_map}
-use Rattle.std.proofs.lemmas.List.{append-nil, map-append}
+use Rattle.std.proofs.Common.{◌≡◌, ℕ, ◌≤◌, false, true≢false, List, [], ◌∷◌, ◌++◌, map, length, take, refl, sym, ap, ◌∙◌, arith, append_assoc}
+use Rattle.std.specs.Prelude.{Option, Some, None}
+use Rattle.std.proofs.lemmas.List.{append-nil}
 use Rattle.ucon_base.specs.Elements.{Each, each_append, each_map}
-use Rattle.ucon_model.specs.declared.command.Caller.{Caller}
 use Rattle.ucon_model.specs.declared.command.Command.TheVariants as commands
-use Rattle.ucon_model.specs.declared.command.Entry.{Entry}
 use Rattle.ucon_model.specs.declared.session.SessionState.{SessionState}
-use Rattle.ucon_model.specs.Action.{Trace}
-use Rattle.ucon_model.specs.Block.{reply}
-use Rattle.ucon_model.specs.Plain.{PlainPolicy}
-use Rattle.ucon_model.specs.History.{History, said, changes, trace}
+use Rattle.ucon_model.specs.History.{History, changes}
 use Rattle.ucon_model.specs.LegalRun.{Answer, no_memory, disk_fault, stopped, placed, Answered, recorded, stands_on, AreInOrder, own_answers}
-use Rattle.ucon_board.specs.Board.{Board, GoesOn, place_of, state_in}
-use Rattle.ucon_board.specs.States.{look_reply, state_after}
+use Rattle.ucon_board.specs.Board.{Board, GoesOn, place_of}
+use Rattle.ucon_board.specs.States.{look_reply}
 use Rattle.ucon_store.specs.declared.event.Event.{Event}
 use Rattle.ucon_client.specs.Events.{entries_in}
-use Rattle.ucon_client.specs.Clients.{faulted, Shows, IsSaidIn, WouldChange, AreRight}
+use Rattle.ucon_client.specs.Clients.{faulted, Replies, Shows, IsSaidIn, WouldChange, AreRight}
 use Rattle.ucon_client.specs.Looks.{HasReached, IsConfirmed, IsRead, IsTrueIn, IsUpTo, Look, Rise, answered_look, last_place}
 use Rattle.ucon_client.proofs.OneClient.{Follows, SeenFollows, recorded-append, faulted-append, in_order-append}
-
--- what a look is answered, by the state of its session
-abbrev pub LooksTell : Type 0
-LooksTell = (P : PlainPolicy) (T : Trace) (caller : Caller) (n : ℕ) → reply P T caller (commands.Look n) ≡ look_reply n (state_after T n)
 
 -- ---- a look changes nothing
 
@@ -33,15 +24,12 @@ no_change n (Some state) = refl
 stands : (l : Look) → stands_on l.place (look_reply l.session l.state) ≡ l.place
 stands l = rw (no_change l.session l.state) refl
 
-said_look : LooksTell → (P : PlainPolicy) (G : History) (log : List Event) (l : Look) → IsTrueIn P G log l → IsSaidIn P G log (answered_look l)
-said_look tell P G log l t =
-    let at = stands l in
-    let H : History = take l.place (entries_in log) in
-    let reads : look_reply l.session l.state ≡ said P H l.caller (commands.Look l.session) =
-    ap (look_reply l.session) t.2 ∙ sym (tell P (trace P H) l.caller l.session) in (
+said_look : (says : Replies) (G : History) (log : List Event) (l : Look) → IsTrueIn says G log l → IsSaidIn says G log (answered_look l)
+said_look says G log l t =
+    let at = stands l in (
       omega (arith, at, t.0),
       omega (arith, at, t.1),
-      reads ∙ ap (λ k. said P (take k (entries_in log)) l.caller (commands.Look l.session)) (sym at),
+      t.2 ∙ ap (λ k. says (take k (entries_in log)) l.caller (commands.Look l.session)) (sym at),
     )
 
 -- ---- what each part of being right says of looks
@@ -58,17 +46,17 @@ callers_of : (client : ℕ) (looks : List Look) → Each (λ l. l.caller.0 ≡ c
 callers_of client [] h = tt
 callers_of client (l ∷ looks) h = (h.0, callers_of client looks h.1)
 
-replies_of : LooksTell → (P : PlainPolicy) (G : History) (log : List Event) (looks : List Look) → Each (IsTrueIn P G log) looks → Each (IsSaidIn P G log) (map answered_look looks)
-replies_of tell P G log [] h = tt
-replies_of tell P G log (l ∷ looks) h = (said_look tell P G log l h.0, replies_of tell P G log looks h.1)
+replies_of : (says : Replies) (G : History) (log : List Event) (looks : List Look) → Each (IsTrueIn says G log) looks → Each (IsSaidIn says G log) (map answered_look looks)
+replies_of says G log [] h = tt
+replies_of says G log (l ∷ looks) h = (said_look says G log l h.0, replies_of says G log looks h.1)
 
-shown_of : (P : PlainPolicy) (G : History) (log : List Event) (looks : List Look) → Each (IsTrueIn P G log) looks → Each (λ t. Shows log t.answer) (map answered_look looks)
-shown_of P G log [] h = tt
-shown_of P G log (l ∷ looks) h = (h.0.1, shown_of P G log looks h.1)
+shown_of : (says : Replies) (G : History) (log : List Event) (looks : List Look) → Each (IsTrueIn says G log) looks → Each (λ t. Shows log t.answer) (map answered_look looks)
+shown_of says G log [] h = tt
+shown_of says G log (l ∷ looks) h = (h.0.1, shown_of says G log looks h.1)
 
-would_change_of : (P : PlainPolicy) (log : List Event) (looks : List Look) → Each (WouldChange P log) (map answered_look looks)
-would_change_of P log [] = tt
-would_change_of P log (l ∷ looks) = ((λ f. absurd (true≢false (sym f))), would_change_of P log looks)
+would_change_of : (says : Replies) (log : List Event) (looks : List Look) → Each (WouldChange says log) (map answered_look looks)
+would_change_of says log [] = tt
+would_change_of says log (l ∷ looks) = ((λ f. absurd (true≢false (sym f))), would_change_of says log looks)
 
 -- ---- order
 
@@ -97,22 +85,22 @@ in_order from (l ∷ looks) rise =
 
 -- ---- together
 
-pub looks_are_right : LooksTell → (P : PlainPolicy) (client : ℕ) (G : History) (log : List Event) (told : List Answered) (from : ℕ) (looks : List Look)
-    → AreRight P client G log told → HasReached from told → Each (λ l. l.caller.0 ≡ client) looks → Each (IsTrueIn P G log) looks → Rise from looks
-    → AreRight P client G log (told ++ map answered_look looks)
-looks_are_right tell P client G log told from looks r reached own all rise =
+pub looks_are_right : (says : Replies) (client : ℕ) (G : History) (log : List Event) (told : List Answered) (from : ℕ) (looks : List Look)
+    → AreRight says client G log told → HasReached from told → Each (λ l. l.caller.0 ≡ client) looks → Each (IsTrueIn says G log) looks → Rise from looks
+    → AreRight says client G log (told ++ map answered_look looks)
+looks_are_right says client G log told from looks r reached own all rise =
     let later = map answered_look looks in
     record {
       opened = r.opened;
       ends = r.ends;
       callers = each_append (λ t. t.line.caller.0 ≡ client) told later r.callers (callers_of client looks own);
-      replies = each_append (IsSaidIn P G log) told later r.replies (replies_of tell P G log looks all);
+      replies = each_append (IsSaidIn says G log) told later r.replies (replies_of says G log looks all);
       order = in_order-append own_answers told later r.order (in_order from looks rise)
           (each_map (λ t. IsUpTo from t.answer) (λ t. Each (SeenFollows own_answers t) later) (λ t up. all_follow from t looks up rise) told reached);
       records = recorded-append told later ∙ (ap (λ l. recorded told ++ l) (none_recorded looks) ∙ (append-nil (recorded told) ∙ r.records));
       faults = faulted-append told later ∙ (ap (λ l. faulted told ++ l) (none_faulted looks) ∙ (append-nil (faulted told) ∙ r.faults));
-      would_change = each_append (WouldChange P log) told later r.would_change (would_change_of P log looks);
-      shown = each_append (λ t. Shows log t.answer) told later r.shown (shown_of P G log looks all);
+      would_change = each_append (WouldChange says log) told later r.would_change (would_change_of says log looks);
+      shown = each_append (λ t. Shows log t.answer) told later r.shown (shown_of says G log looks all);
     }
 
 pub last_above : (from : ℕ) (looks : List Look) → Rise from looks → from ≤ last_place from looks
@@ -132,10 +120,10 @@ reached_on from told looks reached rise =
 
 -- ---- what a confirmation tells of them
 
-pub true_in : (P : PlainPolicy) (G : History) (log : List Event) (board : Board) → IsConfirmed P log board → length G ≤ board.opened_at
-    → (looks : List Look) → Each (IsRead board) looks → Each (IsTrueIn P G log) looks
-true_in P G log board c le [] h = tt
-true_in P G log board c le (l ∷ looks) h =
+pub true_in : (says : Replies) (G : History) (log : List Event) (board : Board) → IsConfirmed says log board → length G ≤ board.opened_at
+    → (looks : List Look) → Each (IsRead board) looks → Each (IsTrueIn says G log) looks
+true_in says G log board c le [] h = tt
+true_in says G log board c le (l ∷ looks) h =
     let b : Board = h.0.0 in
     let on : GoesOn b board = h.0.1 in
     let place : l.place ≡ place_of b = h.0.2 in
@@ -143,9 +131,10 @@ true_in P G log board c le (l ∷ looks) h =
       (
         omega (arith, le, place, on.opened_at),
         omega (arith, place, within),
-        h.0.3 ∙ (c.states b on l.session ∙ ap (λ k. state_after (trace P (take k (entries_in log))) l.session) (sym place)),
+        ap (look_reply l.session) h.0.3
+            ∙ (c.states b on l.caller l.session ∙ ap (λ k. says (take k (entries_in log)) l.caller (commands.Look l.session)) (sym place)),
       ),
-      true_in P G log board c le looks h.1,
+      true_in says G log board c le looks h.1,
     )
 
 -- what was read is still that, as the reader reads on

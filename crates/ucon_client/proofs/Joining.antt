@@ -3,19 +3,18 @@ use Rattle.std.proofs.Common.{◌≡◌, ◌⊎◌, ℕ, ◌+◌, ◌<◌, List,
 use Rattle.std.proofs.lemmas.List.{map-append}
 use Rattle.ucon_turn.specs.Lists.{Has, Continues, ByOthers}
 use Rattle.ucon_client.proofs.Seats.{has_front, has_last}
-use Rattle.ucon_model.specs.Plain.{PlainPolicy}
 use Rattle.ucon_model.specs.History.{History}
 use Rattle.ucon_store.specs.declared.event.Event.{Event}
 use Rattle.ucon_store.specs.declared.event.Event.TheVariants.{Done}
 use Rattle.ucon_store.specs.Events.{number_of}
 use Rattle.ucon_client.specs.Events.{EndsAtMark}
-use Rattle.ucon_client.specs.Clients.{AreRight, Served, AreRising, AreJoined}
+use Rattle.ucon_client.specs.Clients.{AreJoined, AreRight, AreRising, Replies, Served}
 use Rattle.ucon_base.specs.Elements.{Each, each_append, each_both, each_map}
 use Rattle.ucon_client.proofs.Listing.{ends_done}
 use Rattle.ucon_client.proofs.OneClient.{others_change_nothing}
 
-pub begins_joined : (P : PlainPolicy) (G : History) → AreJoined P G (map Done G) [] []
-begins_joined P G = record { ends = ends_done G; right = tt; rising = tt; back = tt; known = tt }
+pub begins_joined : (says : Replies) (G : History) → AreJoined says G (map Done G) [] []
+begins_joined says G = record { ends = ends_done G; right = tt; rising = tt; back = tt; known = tt }
 
 -- the number of a client
 abbrev pub number : Served → ℕ
@@ -37,11 +36,11 @@ pub rising_below : (xs : List ℕ) (n : ℕ) (ys : List ℕ) → AreRising (xs +
 rising_below [] n ys up = tt
 rising_below (x ∷ xs) n ys up = (below_last x xs n ys up.0, rising_below xs n ys up.1)
 
-pub stays_joined : (P : PlainPolicy) (G : History) (seen own now : List Event) (taken : List ℕ) (clients : List Served) (c : Served)
-    → AreJoined P G seen taken clients → AreRight P c.number G own c.told → Each (λ d. d.number < c.number) clients
+pub stays_joined : (says : Replies) (G : History) (seen own now : List Event) (taken : List ℕ) (clients : List Served) (c : Served)
+    → AreJoined says G seen taken clients → AreRight says c.number G own c.told → Each (λ d. d.number < c.number) clients
     → (now ≡ seen) ⊎ (now ≡ own) → Continues (ByOthers number_of 0 taken) seen now → Continues (ByOthers number_of (c.number + 1) []) own now
-    → AreJoined P G now ((c.number + 1) ∷ taken) (clients ++ c ∷ [])
-stays_joined P G seen own now taken clients c j r below longer ours theirs =
+    → AreJoined says G now ((c.number + 1) ∷ taken) (clients ++ c ∷ [])
+stays_joined says G seen own now taken clients c j r below longer ours theirs =
     let ends : EndsAtMark now = ⊎_elim
     (λ (e : now ≡ seen). subst EndsAtMark (sym e) j.ends)
     (λ (e : now ≡ own). subst EndsAtMark (sym e) r.ends) longer in
@@ -49,10 +48,10 @@ stays_joined P G seen own now taken clients c j r below longer ours theirs =
     let numbers : map seat (clients ++ c ∷ []) ≡ map seat clients ++ ((c.number + 1) ∷ []) = map-append seat clients (c ∷ []) in
     record {
       ends = ends;
-      right = each_append (λ d. AreRight P d.number G now d.told) clients (c ∷ [])
-          (each_both (λ d. AreRight P d.number G seen d.told) (λ d. Has taken (d.number + 1)) (λ d. AreRight P d.number G now d.told)
-          (λ d was back. others_change_nothing P d.number G seen now d.told 0 taken was (inr back) ours ends) clients j.right j.back)
-          (others_change_nothing P c.number G own now c.told (c.number + 1) [] r (inl refl) theirs ends, tt);
+      right = each_append (λ d. AreRight says d.number G now d.told) clients (c ∷ [])
+          (each_both (λ d. AreRight says d.number G seen d.told) (λ d. Has taken (d.number + 1)) (λ d. AreRight says d.number G now d.told)
+          (λ d was back. others_change_nothing says d.number G seen now d.told 0 taken was (inr back) ours ends) clients j.right j.back)
+          (others_change_nothing says c.number G own now c.told (c.number + 1) [] r (inl refl) theirs ends, tt);
       rising = rising-push clients c j.rising below;
       back = each_append (λ d. Has ((c.number + 1) ∷ taken) (d.number + 1)) clients (c ∷ [])
           (each_map (λ d. Has taken (d.number + 1)) (λ d. Has ((c.number + 1) ∷ taken) (d.number + 1)) (λ d back. inr back) clients j.back)

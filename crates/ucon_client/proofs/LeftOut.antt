@@ -5,11 +5,10 @@ use Rattle.std.proofs.lemmas.List.{append-nil, map-append}
 use Rattle.ucon_base.specs.Elements.{Each, each_append, each_map}
 use Rattle.ucon_model.specs.declared.command.Entry.{Entry}
 use Rattle.ucon_model.specs.History.{History}
-use Rattle.ucon_model.specs.Plain.{PlainPolicy}
 use Rattle.ucon_model.specs.LegalRun.{Answer, no_memory, disk_fault, stopped, placed, Answered, with_record, recorded, AreInOrder, own_answers, is_disk_fault}
 use Rattle.ucon_store.specs.declared.event.Event.{Event}
 use Rattle.ucon_client.specs.Events.{marks_in}
-use Rattle.ucon_client.specs.Clients.{faulted, Shows, IsSaidIn, WouldChange, AreRight}
+use Rattle.ucon_client.specs.Clients.{faulted, Shows, IsSaidIn, Replies, WouldChange, AreRight}
 use Rattle.ucon_client.proofs.OneClient.{Follows, SeenFollows, recorded-append, faulted-append, in_order-append}
 
 -- these lines, each with this answer
@@ -36,14 +35,14 @@ with_left_out told lines = told ++ answered_so (left_answer told) lines
 -- ---- answers without a step
 
 -- what an answer has to be that may stand behind all others, without a step
-record StandsBehind (P : PlainPolicy) (log : List Event) (a : Answer) : Type 0 where
-  said : (G : History) (line : Entry) → IsSaidIn P G log (record { line = line; answer = a })
+record StandsBehind (says : Replies) (log : List Event) (a : Answer) : Type 0 where
+  said : (G : History) (line : Entry) → IsSaidIn says G log (record { line = line; answer = a })
   shows : Shows log a
   records_none : (line : Entry) (others : List (ℕ × Entry)) → with_record line a others ≡ others
   no_fault : is_disk_fault a ≡ false
   itself : Follows a a
 
-module _ (P : PlainPolicy) (log : List Event) (a : Answer) (s : StandsBehind P log a) where
+module _ (says : Replies) (log : List Event) (a : Answer) (s : StandsBehind says log a) where
   so_recorded : (lines : List Entry) → recorded (answered_so a lines) ≡ []
   so_recorded [] = refl
   so_recorded (l ∷ lines) = s.records_none l (recorded (answered_so a lines)) ∙ so_recorded lines
@@ -64,20 +63,20 @@ module _ (P : PlainPolicy) (log : List Event) (a : Answer) (s : StandsBehind P l
   so_order [] = tt
   so_order (l ∷ lines) = (so_each (SeenFollows own_answers (record { line = l; answer = a })) lines (λ line sees. s.itself), so_order lines)
 
-  so_right : (client : ℕ) (G : History) (told : List Answered) (lines : List Entry) → AreRight P client G log told
-      → Each (λ t. Follows t.answer a) told → Each (λ l. l.caller.0 ≡ client) lines → AreRight P client G log (told ++ answered_so a lines)
+  so_right : (client : ℕ) (G : History) (told : List Answered) (lines : List Entry) → AreRight says client G log told
+      → Each (λ t. Follows t.answer a) told → Each (λ l. l.caller.0 ≡ client) lines → AreRight says client G log (told ++ answered_so a lines)
   so_right client G told lines r behind own =
       let later = answered_so a lines in
       record {
         opened = r.opened;
         ends = r.ends;
         callers = each_append (λ t. t.line.caller.0 ≡ client) told later r.callers (so_callers client lines own);
-        replies = each_append (IsSaidIn P G log) told later r.replies (so_each (IsSaidIn P G log) lines (s.said G));
+        replies = each_append (IsSaidIn says G log) told later r.replies (so_each (IsSaidIn says G log) lines (s.said G));
         order = in_order-append own_answers told later r.order (so_order lines)
             (each_map (λ t. Follows t.answer a) (λ t. Each (SeenFollows own_answers t) later) (λ t f. so_each (SeenFollows own_answers t) lines (λ line sees. f)) told behind);
         records = recorded-append told later ∙ (ap (λ l. recorded told ++ l) (so_recorded lines) ∙ (append-nil (recorded told) ∙ r.records));
         faults = faulted-append told later ∙ (ap (λ l. faulted told ++ l) (so_faulted lines) ∙ (append-nil (faulted told) ∙ r.faults));
-        would_change = each_append (WouldChange P log) told later r.would_change (so_each (WouldChange P log) lines (λ line f. absurd (true≢false (sym f ∙ s.no_fault))));
+        would_change = each_append (WouldChange says log) told later r.would_change (so_each (WouldChange says log) lines (λ line f. absurd (true≢false (sym f ∙ s.no_fault))));
         shown = each_append (λ t. Shows log t.answer) told later r.shown (so_each (λ t. Shows log t.answer) lines (λ line. s.shows));
       }
 
@@ -104,16 +103,16 @@ all_stopped : (told : List Answered) → Each (λ t. Follows t.answer stopped) t
 all_stopped [] = tt
 all_stopped (t ∷ told) = (any_stopped t.answer, all_stopped told)
 
-unmemorised : (P : PlainPolicy) (client : ℕ) (G : History) (log : List Event) (told : List Answered) (lines : List Entry) → AreRight P client G log told
-    → Each (λ t. IsFree t.answer) told → Each (λ l. l.caller.0 ≡ client) lines → AreRight P client G log (told ++ answered_so no_memory lines)
-unmemorised P client G log told lines r free own =
-    so_right P log no_memory (record { said = λ G line. tt; shows = tt; records_none = λ line others. refl; no_fault = refl; itself = (tt, tt) }) client G told lines r
+unmemorised : (says : Replies) (client : ℕ) (G : History) (log : List Event) (told : List Answered) (lines : List Entry) → AreRight says client G log told
+    → Each (λ t. IsFree t.answer) told → Each (λ l. l.caller.0 ≡ client) lines → AreRight says client G log (told ++ answered_so no_memory lines)
+unmemorised says client G log told lines r free own =
+    so_right says log no_memory (record { said = λ G line. tt; shows = tt; records_none = λ line others. refl; no_fault = refl; itself = (tt, tt) }) client G told lines r
     (each_map (λ t. IsFree t.answer) (λ t. Follows t.answer no_memory) (λ t h. free_follows t.answer h) told free) own
 
-stopped_all : (P : PlainPolicy) (client : ℕ) (G : History) (log : List Event) (told : List Answered) (lines : List Entry) → AreRight P client G log told
-    → marks_in log ≢ [] → Each (λ l. l.caller.0 ≡ client) lines → AreRight P client G log (told ++ answered_so stopped lines)
-stopped_all P client G log told lines r some own =
-    so_right P log stopped (record { said = λ G line. tt; shows = some; records_none = λ line others. refl; no_fault = refl; itself = (tt, refl) }) client G told lines r
+stopped_all : (says : Replies) (client : ℕ) (G : History) (log : List Event) (told : List Answered) (lines : List Entry) → AreRight says client G log told
+    → marks_in log ≢ [] → Each (λ l. l.caller.0 ≡ client) lines → AreRight says client G log (told ++ answered_so stopped lines)
+stopped_all says client G log told lines r some own =
+    so_right says log stopped (record { said = λ G line. tt; shows = some; records_none = λ line others. refl; no_fault = refl; itself = (tt, refl) }) client G told lines r
     (all_stopped told) own
 
 -- ---- which of the two
@@ -132,13 +131,13 @@ left_so : (log : List Event) (told : List Answered) → Each (λ t. Shows log t.
 left_so log [] shown = inl (refl, tt)
 left_so log (t ∷ told) shown = one_more log t.answer (left_answer told) (Each (λ t. IsFree t.answer) told) shown.0 (left_so log told shown.1)
 
-pub left_right : (P : PlainPolicy) (client : ℕ) (G : History) (log : List Event) (told : List Answered) (lines : List Entry) → AreRight P client G log told
-    → Each (λ l. l.caller.0 ≡ client) lines → AreRight P client G log (with_left_out told lines)
-left_right P client G log told lines r own = ⊎_elim
+pub left_right : (says : Replies) (client : ℕ) (G : History) (log : List Event) (told : List Answered) (lines : List Entry) → AreRight says client G log told
+    → Each (λ l. l.caller.0 ≡ client) lines → AreRight says client G log (with_left_out told lines)
+left_right says client G log told lines r own = ⊎_elim
     (λ (f : (left_answer told ≡ no_memory) × Each (λ t. IsFree t.answer) told).
-    subst (λ a. AreRight P client G log (told ++ answered_so a lines)) (sym f.0) (unmemorised P client G log told lines r f.1 own))
+    subst (λ a. AreRight says client G log (told ++ answered_so a lines)) (sym f.0) (unmemorised says client G log told lines r f.1 own))
     (λ (s : (left_answer told ≡ stopped) × (marks_in log ≢ [])).
-    subst (λ a. AreRight P client G log (told ++ answered_so a lines)) (sym s.0) (stopped_all P client G log told lines r s.1 own))
+    subst (λ a. AreRight says client G log (told ++ answered_so a lines)) (sym s.0) (stopped_all says client G log told lines r s.1 own))
     (left_so log told r.shown)
 
 -- ---- the lines

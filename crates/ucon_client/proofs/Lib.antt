@@ -14,6 +14,7 @@ pub mod Crossing
 pub mod Moves
 pub mod Rounds
 pub mod Following
+pub mod After
 pub mod Held
 pub mod Holding
 pub mod Turning

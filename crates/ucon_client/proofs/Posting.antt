@@ -1,5 +1,5 @@
 -- What a writer publishes, and the states that a board begins with.
-use Rattle.std.proofs.Common.{◌≡◌, ℕ, zero, suc, ◌+◌, ◌<◌, ◌≤◌, true, false, List, [], ◌∷◌, ◌++◌, Option, Some, None, Result, Ok, Err, map, length, take, take_all, refl, sym, ap, ◌∙◌, subst, arith}
+use Rattle.std.proofs.Common.{◌≡◌, ℕ, zero, suc, ◌+◌, ◌≤◌, true, false, List, [], ◌∷◌, ◌++◌, Some, Result, Ok, Err, map, length, take, take_all, refl, sym, ap, ◌∙◌, subst, arith}
 use Rattle.std.specs.Prelude.{Bool, IfOk, IsErrOf, not, option_map, slice_get}
 use Rattle.ucon_base.specs.Memory.{out_of_memory}
 use Rattle.ucon_model.specs.declared.command.Entry.{Entry}

@@ -6,15 +6,14 @@ use Rattle.std.proofs.lemmas.List.{append-nil, append_cancel_left, map-append}
 use Rattle.ucon_base.specs.Elements.{Each}
 use Rattle.ucon_turn.specs.Lists.{Continues}
 use Rattle.ucon_model.specs.declared.command.Entry.{Entry}
-use Rattle.ucon_model.specs.Plain.{PlainPolicy}
-use Rattle.ucon_model.specs.History.{History, said, changes}
+use Rattle.ucon_model.specs.History.{History, changes}
 use Rattle.ucon_model.specs.LegalRun.{Answer, no_memory, disk_fault, stopped, placed}
 use Rattle.ucon_store.specs.declared.event.Event.{Event}
 use Rattle.ucon_store.specs.declared.event.Event.TheVariants.{Done, Failed}
 use Rattle.ucon_store.specs.Events.{events, number_of}
 use Rattle.ucon_store.specs.Marks.{marked}
 use Rattle.ucon_client.specs.Events.{marks_in, appended}
-use Rattle.ucon_client.specs.Clients.{Stepped, Tells, Steps}
+use Rattle.ucon_client.specs.Clients.{Replies, Stepped, Steps, Tells}
 use Rattle.ucon_client.proofs.Listing.{entries_in-events, marks_in-events, ends_events}
 
 -- ---- from the history and the mark to the list
@@ -23,13 +22,13 @@ done_grown : (b : Bool) (H : History) (line : Entry) → map Done (if b then H +
 done_grown true H line = map-append Done H (line ∷ [])
 done_grown false H line = sym (append-nil (map Done H))
 
-appends : (P : PlainPolicy) (line : Entry) (H : History) (mark : Option Entry) (later : History) (next : Option Entry) (a : Answer)
-    → Stepped P line H mark later next a → events later (marked next) ≡ events H (marked mark) ++ appended line a
-appends P line H mark later next no_memory s = (λ i. events (s.1 i) (marked ((s.2 ∙ sym s.0) i))) ∙ sym (append-nil (events H (marked mark)))
-appends P line H mark later next stopped s = (λ i. events (s.1 i) (marked (s.2 i))) ∙ sym (append-nil (events H (marked mark)))
-appends P line H mark later next disk_fault s = (λ i. events (s.2 i) (marked (s.3 i))) ∙ ap (λ m. events H (marked m) ++ Failed line ∷ []) (sym s.0)
-appends P line H mark later next (placed place reply) s =
-    (λ i. events (s.3 i) (marked (s.4 i))) ∙ (done_grown (changes (said P H line.caller line.command)) H line
+appends : (says : Replies) (line : Entry) (H : History) (mark : Option Entry) (later : History) (next : Option Entry) (a : Answer)
+    → Stepped says line H mark later next a → events later (marked next) ≡ events H (marked mark) ++ appended line a
+appends says line H mark later next no_memory s = (λ i. events (s.1 i) (marked ((s.2 ∙ sym s.0) i))) ∙ sym (append-nil (events H (marked mark)))
+appends says line H mark later next stopped s = (λ i. events (s.1 i) (marked (s.2 i))) ∙ sym (append-nil (events H (marked mark)))
+appends says line H mark later next disk_fault s = (λ i. events (s.2 i) (marked (s.3 i))) ∙ ap (λ m. events H (marked m) ++ Failed line ∷ []) (sym s.0)
+appends says line H mark later next (placed place reply) s =
+    (λ i. events (s.3 i) (marked (s.4 i))) ∙ (done_grown (changes (says H line.caller line.command)) H line
     ∙ (ap (λ reply. map Done H ++ (if changes reply then Done line ∷ [] else [])) (sym s.1) ∙ ap (λ m. events H (marked m) ++ appended line (placed place reply)) (sym s.0)))
 
 no_marks : (H : History) (mark : Option Entry) → mark ≡ None → marks_in (events H (marked mark)) ≡ []
@@ -39,24 +38,24 @@ some_mark : (H : History) (mark : Option Entry) → IsSome mark → marks_in (ev
 some_mark H None some e = absurd (cc)
 some_mark H (Some m) some e = absurd (let none = sym (marks_in-events H (Some m)) ∙ e in (cc))
 
-tells : (P : PlainPolicy) (line : Entry) (H : History) (mark : Option Entry) (later : History) (next : Option Entry) (a : Answer)
-    → Stepped P line H mark later next a → Tells P line (events H (marked mark)) (events later (marked next)) a
-tells P line H mark later next no_memory s = no_marks H mark s.0
-tells P line H mark later next stopped s = some_mark H mark s.0
-tells P line H mark later next disk_fault s = (
+tells : (says : Replies) (line : Entry) (H : History) (mark : Option Entry) (later : History) (next : Option Entry) (a : Answer)
+    → Stepped says line H mark later next a → Tells says line (events H (marked mark)) (events later (marked next)) a
+tells says line H mark later next no_memory s = no_marks H mark s.0
+tells says line H mark later next stopped s = some_mark H mark s.0
+tells says line H mark later next disk_fault s = (
   no_marks H mark s.0,
-  ap (λ K. changes (said P K line.caller line.command)) (entries_in-events H mark) ∙ s.1,
+  ap (λ K. changes (says K line.caller line.command)) (entries_in-events H mark) ∙ s.1,
 )
-tells P line H mark later next (placed place reply) s = (
+tells says line H mark later next (placed place reply) s = (
   no_marks H mark s.0,
-  s.1 ∙ ap (λ K. said P K line.caller line.command) (sym (entries_in-events H mark)),
+  s.1 ∙ ap (λ K. says K line.caller line.command) (sym (entries_in-events H mark)),
   s.2 ∙ ap length (sym (entries_in-events later next)),
 )
 
-pub stepped : (P : PlainPolicy) (line : Entry) (H : History) (mark : Option Entry) (later : History) (next : Option Entry) (a : Answer)
-    → Stepped P line H mark later next a → Steps P line (events H (marked mark)) (events later (marked next)) a
-stepped P line H mark later next a s =
-    record { ends = ends_events H mark; appends = appends P line H mark later next a s; tells = tells P line H mark later next a s }
+pub stepped : (says : Replies) (line : Entry) (H : History) (mark : Option Entry) (later : History) (next : Option Entry) (a : Answer)
+    → Stepped says line H mark later next a → Steps says line (events H (marked mark)) (events later (marked next)) a
+stepped says line H mark later next a s =
+    record { ends = ends_events H mark; appends = appends says line H mark later next a s; tells = tells says line H mark later next a s }
 
 -- ---- what is appended
 
@@ -70,9 +69,9 @@ marks_by_fault line disk_fault e = refl
 marks_by_fault line stopped e = absurd (cc)
 marks_by_fault line (placed place reply) e = absurd (no_mark_by (changes reply) line e)
 
-pub faults_are_marked : (P : PlainPolicy) (line : Entry) (before after : List Event) (a : Answer) → Steps P line before after a
+pub faults_are_marked : (says : Replies) (line : Entry) (before after : List Event) (a : Answer) → Steps says line before after a
     → (a ≡ disk_fault) ↔ (after ≡ before ++ Failed line ∷ [])
-faults_are_marked P line before after a s = (
+faults_are_marked says line before after a s = (
   λ e. s.appends ∙ ap (λ b. before ++ appended line b) e,
   λ e. marks_by_fault line a (append_cancel_left before (appended line a) (Failed line ∷ []) (sym s.appends ∙ e)),
 )
@@ -87,6 +86,6 @@ appended_own line disk_fault = (refl, tt)
 appended_own line stopped = tt
 appended_own line (placed place reply) = own_by (changes reply) line
 
-pub step_appends_own : (P : PlainPolicy) (line : Entry) (before after : List Event) (a : Answer) → Steps P line before after a
+pub step_appends_own : (says : Replies) (line : Entry) (before after : List Event) (a : Answer) → Steps says line before after a
     → Continues (λ i. number_of i ≡ line.caller.0 + 1) before after
-step_appends_own P line before after a s = (appended line a, sym s.appends, appended_own line a)
+step_appends_own says line before after a s = (appended line a, sym s.appends, appended_own line a)

@@ -48,9 +48,9 @@ serves_more {D} turn was now seat more s all part number lines answers = record 
   seated = s.seated;
   number = s.number ∙ ap (λ n. n + 1) (sym number);
   part = part;
-  right = λ P G is front.
+  right = λ says G from.
       let told = told_before was now more all lines answers in
-      subst (λ (z : ℕ × List Answered). AreRight P z.0 (G ++ turn.opened.store.entries) (map Done G ++ seat.seen) z.1) (λ i. (sym number i, sym told i)) (s.right P G is front);
+      subst (λ (z : ℕ × List Answered). AreRight says z.0 (G ++ turn.opened.store.entries) (map Done G ++ seat.seen) z.1) (λ i. (sym number i, sym told i)) (s.right says G from);
 }
 
 -- the one line that wasn't answered is

@@ -9,15 +9,14 @@ use Rattle.ucon_turn.specs.Lists.{Has, Continues}
 use Rattle.std.specs.Option.{option_to_list}
 use Rattle.ucon_client.proofs.Seats.{has_each}
 use Rattle.ucon_model.specs.declared.command.Entry.{Entry}
-use Rattle.ucon_model.specs.Plain.{PlainPolicy}
-use Rattle.ucon_model.specs.History.{History, said, changes}
-use Rattle.ucon_model.specs.LegalRun.{Answer, no_memory, disk_fault, stopped, placed, Answered, recorded, by_place, history_made, AreNumberedFrom, IsSaid, AreInOrder, own_answers, is_disk_fault, is_stopped, IsLegalRun}
+use Rattle.ucon_model.specs.History.{History, changes}
+use Rattle.ucon_model.specs.LegalRun.{Answer, no_memory, disk_fault, stopped, placed, Answered, recorded, by_place, history_made, AreNumberedFrom, AreInOrder, own_answers, is_disk_fault, is_stopped}
 use Rattle.ucon_store.specs.declared.event.Event.{Event}
 use Rattle.ucon_store.specs.declared.event.Event.TheVariants.{Done, Failed}
 use Rattle.ucon_store.specs.Events.{events, number_of}
 use Rattle.ucon_store.specs.Marks.{marked}
 use Rattle.ucon_client.specs.Events.{entries_in, marks_in, EndsAtMark}
-use Rattle.ucon_client.specs.Clients.{numbered_from, behind, faulted, Shows, IsSaidIn, WouldChange, AreRight, Served, told_by, AreRising, AreJoined}
+use Rattle.ucon_client.specs.Clients.{AreJoined, AreRight, AreRising, IsSaidBy, IsSaidIn, Replies, Served, Shows, WouldChange, behind, faulted, numbered_from, told_by}
 use Rattle.ucon_base.specs.Elements.{Each, each_always, each_append, each_both, each_map, filter_all, filter_none}
 use Rattle.ucon_client.proofs.Placing.{put_all, by_place-append, are_numbered, numbered_entries, joined_numbered}
 use Rattle.ucon_client.proofs.Listing.{entries_append, marks_append, entries_done, marks_done, entries_in-events, marks_in-events, one_mark, behind_done}
@@ -123,9 +122,9 @@ some_mark log (t ∷ told) h e = ⊎_elim
 
 -- ---- all together
 
-module _ (P : PlainPolicy) (G : History) (log : List Event) where
+module _ (says : Replies) (G : History) (log : List Event) where
   -- the records of all clients, put by their places, are the entries behind the opening history that are theirs
-  records_together : (clients : List Served) → Each (λ c. AreRight P c.number G log c.told) clients → AreApart clients
+  records_together : (clients : List Served) → Each (λ c. AreRight says c.number G log c.told) clients → AreApart clients
       → by_place (recorded (told_by clients)) ≡ filter (listed_record clients) (behind G log)
   records_together [] right apart = sym (filter_none (λ x. false) (behind G log) (each_always (λ x. false ≡ false) (λ x. refl) (behind G log)))
   records_together (c ∷ clients) right apart =
@@ -135,7 +134,7 @@ module _ (P : PlainPolicy) (G : History) (log : List Event) where
       (λ x e. not_listed c.number clients apart.0 x.1.caller.0 e)))
 
   -- and so are the lines with a disk fault the marks that are theirs
-  faults_together : (clients : List Served) → Each (λ c. AreRight P c.number G log c.told) clients → AreApart clients → EndsAtMark log
+  faults_together : (clients : List Served) → Each (λ c. AreRight says c.number G log c.told) clients → AreApart clients → EndsAtMark log
       → faulted (told_by clients) ≡ filter (listed_line clients) (marks_in log)
   faults_together [] right apart ends = sym (filter_none (λ e. false) (marks_in log) (each_always (λ e. false ≡ false) (λ e. refl) (marks_in log)))
   faults_together (c ∷ clients) right apart ends =
@@ -144,11 +143,11 @@ module _ (P : PlainPolicy) (G : History) (log : List Event) where
       (λ e own. not_listed c.number clients apart.0 e.caller.0 own))
 
   -- no client sees another's answers
-  order_together : (clients : List Served) → Each (λ c. AreRight P c.number G log c.told) clients → AreApart clients → AreInOrder own_answers (told_by clients)
+  order_together : (clients : List Served) → Each (λ c. AreRight says c.number G log c.told) clients → AreApart clients → AreInOrder own_answers (told_by clients)
   order_together [] right apart = tt
   order_together (c ∷ clients) right apart =
       let others : Each (λ t. c.number ≢ t.line.caller.0) (told_by clients) = each_told (λ t. c.number ≢ t.line.caller.0) clients
-      (each_both (λ d. c.number ≢ d.number) (λ d. AreRight P d.number G log d.told) (λ d. Each (λ t. c.number ≢ t.line.caller.0) d.told)
+      (each_both (λ d. c.number ≢ d.number) (λ d. AreRight says d.number G log d.told) (λ d. Each (λ t. c.number ≢ t.line.caller.0) d.told)
       (λ d other r. each_map (λ t. t.line.caller.0 ≡ d.number) (λ t. c.number ≢ t.line.caller.0) (λ t e same. other (same ∙ e)) d.told r.callers)
       clients apart.0 right.1) in
       in_order-append own_answers c.told (told_by clients) right.0.order (order_together clients right.1 apart.1)
@@ -157,53 +156,62 @@ module _ (P : PlainPolicy) (G : History) (log : List Event) where
       (λ s other sees. absurd (other (sym own ∙ eqb-true t.line.caller.0 s.line.caller.0 sees))) (told_by clients) others)
       c.told right.0.callers)
 
-  each_client : (Q : Answered → Type 0) (clients : List Served) → ((c : Served) → AreRight P c.number G log c.told → Each Q c.told)
-      → Each (λ c. AreRight P c.number G log c.told) clients → Each Q (told_by clients)
-  each_client Q clients f right = each_told Q clients (each_map (λ c. AreRight P c.number G log c.told) (λ c. Each Q c.told) f clients right)
+  each_client : (Q : Answered → Type 0) (clients : List Served) → ((c : Served) → AreRight says c.number G log c.told → Each Q c.told)
+      → Each (λ c. AreRight says c.number G log c.told) clients → Each Q (told_by clients)
+  each_client Q clients f right = each_told Q clients (each_map (λ c. AreRight says c.number G log c.told) (λ c. Each Q c.told) f clients right)
+
+-- ---- what the run is, by what is said behind a history
+
+-- a run is legal behind an opening history, as a legal run is, by these replies
+pub record IsRunBy (says : Replies) (G : History) (told : List Answered) : Type 0 where
+  pub places : AreNumberedFrom (length G) (by_place (recorded told))
+  pub replies : Each (λ t. IsSaidBy says (length G) (history_made G told) t.line t.answer) told
+  pub order : AreInOrder own_answers told
+  pub once : count_by (λ t. is_disk_fault t.answer) told ≤ 1
+  pub would_change : Each (λ t. IsTrue (is_disk_fault t.answer) → IsTrue (changes (says (history_made G told) t.line.caller t.line.command))) told
+  pub by_fault : IsTrue (list_any (λ t. is_stopped t.answer) told) → IsTrue (list_any (λ t. is_disk_fault t.answer) told)
 
 -- the list begins with the opening history, and behind it stand log of clients
-legal_behind : (P : PlainPolicy) (G : History) (rest : List Event) (clients : List Served) (taken : List ℕ)
-    → Each (λ c. AreRight P c.number G (map Done G ++ rest) c.told) clients → AreApart clients → EndsAtMark (map Done G ++ rest)
+legal_behind : (says : Replies) (G : History) (rest : List Event) (clients : List Served) (taken : List ℕ)
+    → Each (λ c. AreRight says c.number G (map Done G ++ rest) c.told) clients → AreApart clients → EndsAtMark (map Done G ++ rest)
     → Each (λ i. Has (0 ∷ taken) (number_of i)) rest → Each (Has (map (λ c. c.number + 1) clients)) taken
-    → IsLegalRun P own_answers G (told_by clients) × (history_made G (told_by clients) ≡ entries_in (map Done G ++ rest))
+    → IsRunBy says G (told_by clients) × (history_made G (told_by clients) ≡ entries_in (map Done G ++ rest))
     × (faulted (told_by clients) ≡ marks_in (map Done G ++ rest))
-legal_behind P G rest clients taken right apart ends theirs ours =
+legal_behind says G rest clients taken right apart ends theirs ours =
     let log : List Event = map Done G ++ rest in
     let told : List Answered = told_by clients in
     let records : by_place (recorded told) ≡ numbered_from (length G) (entries_in rest) =
-    records_together P G log clients right apart ∙ (ap (filter (listed_record clients)) (behind_done G rest)
+    records_together says G log clients right apart ∙ (ap (filter (listed_record clients)) (behind_done G rest)
     ∙ filter_all (listed_record clients) (numbered_from (length G) (entries_in rest)) (records_listed clients taken ours (length G) rest theirs)) in
     let made : history_made G told ≡ entries_in log =
     ap (λ xs. G ++ map (λ x. x.1) xs) records ∙ (ap (λ l. G ++ l) (numbered_entries (length G) (entries_in rest))
     ∙ sym (entries_append (map Done G) rest ∙ ap (λ l. l ++ entries_in rest) (entries_done G))) in
     let marks : marks_in log ≡ marks_in rest = marks_append (map Done G) rest ∙ ap (λ l. l ++ marks_in rest) (marks_done G) in
     let faults : faulted told ≡ marks_in log =
-    faults_together P G log clients right apart ends ∙ (ap (filter (listed_line clients)) marks
+    faults_together says G log clients right apart ends ∙ (ap (filter (listed_line clients)) marks
     ∙ (filter_all (listed_line clients) (marks_in rest) (marks_listed clients taken ours rest theirs) ∙ sym marks)) in
     let count : count_by (λ t. is_disk_fault t.answer) told ≡ length (marks_in log) =
     sym (length-filter (λ t. is_disk_fault t.answer) told) ∙ (sym (length-map (filter (λ t. is_disk_fault t.answer) told) (λ t. t.line)) ∙ ap length faults) in (
       record {
         places = subst (AreNumberedFrom (length G)) (sym records) (are_numbered (length G) (entries_in rest));
-        replies = subst (λ H. Each (λ t. IsSaid P (length G) H t.line t.answer) told) (sym made)
-            (each_client P G log (IsSaidIn P G log) clients (λ c r. r.replies) right);
-        order = order_together P G log clients right apart;
-        causes = record {
-          once = omega (arith, count, one_mark log ends);
-          would_change = subst (λ H. Each (λ t. IsTrue (is_disk_fault t.answer) → IsTrue (changes (said P H t.line.caller t.line.command))) told) (sym made)
-              (each_client P G log (WouldChange P log) clients (λ c r. r.would_change) right);
-          by_fault = λ some. some_fault told (subst (λ l. l ≢ []) (sym faults)
-              (some_mark log told (each_client P G log (λ t. Shows log t.answer) clients (λ c r. r.shown) right) some));
-        };
+        replies = subst (λ H. Each (λ t. IsSaidBy says (length G) H t.line t.answer) told) (sym made)
+            (each_client says G log (IsSaidIn says G log) clients (λ c r. r.replies) right);
+        order = order_together says G log clients right apart;
+        once = omega (arith, count, one_mark log ends);
+        would_change = subst (λ H. Each (λ t. IsTrue (is_disk_fault t.answer) → IsTrue (changes (says H t.line.caller t.line.command))) told) (sym made)
+            (each_client says G log (WouldChange says log) clients (λ c r. r.would_change) right);
+        by_fault = λ some. some_fault told (subst (λ l. l ≢ []) (sym faults)
+            (some_mark log told (each_client says G log (λ t. Shows log t.answer) clients (λ c r. r.shown) right) some));
       },
       made,
       faults,
     )
 
-pub legal_together : (P : PlainPolicy) (G H : History) (mark : Option Entry) (taken : List ℕ) (clients : List Served)
-    → AreJoined P G (events H (marked mark)) taken clients
+pub legal_together : (says : Replies) (G H : History) (mark : Option Entry) (taken : List ℕ) (clients : List Served)
+    → AreJoined says G (events H (marked mark)) taken clients
     → Continues (λ i. Has (0 ∷ taken) (number_of i)) (events G None) (events H (marked mark))
-    → IsLegalRun P own_answers G (told_by clients) × (history_made G (told_by clients) ≡ H) × (faulted (told_by clients) ≡ option_to_list mark)
-legal_together P G H mark taken clients j c =
-    let legal = legal_behind P G c.0 clients taken
-    (subst (λ l. Each (λ d. AreRight P d.number G l d.told) clients) (sym c.1) j.right) (rising_apart clients j.rising) (subst EndsAtMark (sym c.1) j.ends) c.2 j.known in
+    → IsRunBy says G (told_by clients) × (history_made G (told_by clients) ≡ H) × (faulted (told_by clients) ≡ option_to_list mark)
+legal_together says G H mark taken clients j c =
+    let legal = legal_behind says G c.0 clients taken
+    (subst (λ l. Each (λ d. AreRight says d.number G l d.told) clients) (sym c.1) j.right) (rising_apart clients j.rising) (subst EndsAtMark (sym c.1) j.ends) c.2 j.known in
     (legal.0, legal.1 ∙ (ap entries_in c.1 ∙ entries_in-events H mark), legal.2 ∙ (ap marks_in c.1 ∙ marks_in-events H mark))

@@ -3,9 +3,13 @@ use Rattle.std.specs.Prelude.{◌≡◌, ℕ, ◌+◌, ◌<◌, ◌≤◌, List,
 use Rattle.ucon_base.specs.Elements.{Each}
 use Rattle.ucon_turn.specs.Lists.{Continues, ByOthers}
 use Rattle.ucon_turn.specs.Turns.{Opening, Knowledge, IsSeatOf}
+use Rattle.ucon_model.specs.declared.command.Caller.{Caller}
+use Rattle.ucon_model.specs.declared.command.Command.{Command}
 use Rattle.ucon_model.specs.declared.command.Entry.{Entry}
-use Rattle.ucon_model.specs.History.{History, trace}
-use Rattle.ucon_model.specs.Plain.{PlainPolicy}
+use Rattle.ucon_model.specs.Action.{Trace}
+use Rattle.ucon_model.specs.Block.{reply}
+use Rattle.ucon_model.specs.History.{History, trace_from}
+use Rattle.ucon_model.specs.Plain.{Bytes, PlainPolicy}
 use Rattle.ucon_model.specs.Views.{reply_of}
 use Rattle.ucon_model.specs.LegalRun.{Answer as Told, placed, no_memory, disk_fault, stopped, Answered}
 use Rattle.ucon_script.specs.declared.document.Line.{Line}
@@ -20,13 +24,12 @@ use Rattle.ucon_store.specs.declared.event.Base.{Base}
 use Rattle.ucon_store.specs.declared.event.Event.{Event}
 use Rattle.ucon_store.specs.declared.event.Event.TheVariants.{Done}
 use Rattle.ucon_store.specs.Events.{number_of}
-use Rattle.ucon_store.specs.Points.{text_in_force}
-use Rattle.ucon_store.specs.Starts.{IsStart, text_at_start}
-use Rattle.ucon_store.specs.Whole.{IsFront}
+use Rattle.ucon_store.specs.Kept.{Kept}
+use Rattle.ucon_store.specs.Starts.{IsStart}
 use Rattle.ucon_client.specs.declared.looks.Looks.{Looks}
 use Rattle.ucon_board.specs.Board.{Known}
 use Rattle.ucon_client.specs.Boarded.{Sharing}
-use Rattle.ucon_client.specs.Clients.{Steps, AreRight, answered, Served, told_by}
+use Rattle.ucon_client.specs.Clients.{Replies, Steps, AreRight, answered, Served, told_by}
 use Rattle.ucon_client.specs.Looks.{HasReached, IsRead, Look, Rise, answered_look, last_place}
 
 -- what a line asks, and by whom
@@ -89,22 +92,32 @@ pub record IsPart (p : Part) : Type 0 where
   pub first : length p.answers.items ≤ length p.lines.items
   pub room : length p.lines.items ≤ length p.answers.items + p.answers.spare
 
--- the policy of this base is P, and this history leads to where a store of it begins
-pub record IsLedTo (P : PlainPolicy) (base : Base) (G : History) : Type 0 where
-  pub accepts : accepted base.policy ≡ Some P
-  pub starts : IsStart P base.point base.before (trace P G)
-  pub count : length G ≡ base.before
-  pub text : text_in_force base.policy G ≡ text_at_start base.policy base.point
+-- Behind a history as long as what stands before where a store begins, the same is said as after a trace that leads there. That is so under the
+-- policy of this text.
+pub record SaysFrom (policy : Bytes) (point : Option Bytes) (before : ℕ) (says : Replies) (G : History) : Type 0 where
+  pub P : PlainPolicy
+  pub accepts : accepted policy ≡ Some P
+  pub begun : Trace
+  pub starts : IsStart P point before begun
+  pub count : length G ≡ before
+  pub replies : (H : History) (caller : Caller) (c : Command) → says (G ++ H) caller c ≡ reply P (trace_from P begun H) caller c
+
+-- the same of a base
+abbrev pub SaysFromBase : Base → Replies → History → Type 0
+SaysFromBase base = SaysFrom base.policy base.point base.before
+
+-- the same of a store
+abbrev pub SaysFromStore : {D : Type 0} → Kept D → Replies → History → Type 0
+SaysFromStore s = SaysFrom s.policy s.point s.before
 
 -- The seat is one of this turn and has the client's number plus 1. What the client was answered is right for the list that its seat has seen,
--- behind the entries of the store that was handed in. That holds under the store's policy, with each history that leads to where the store begins
--- before both.
+-- behind the entries of the store that was handed in. That holds by each way to say what is replied as the store would, with a history before both.
 pub record Serves {D : Type 0} (turn : Opening (Sharing D)) (p : Part) (seat : Knowledge (Sharing D) Event) : Type 0 where
   pub seated : IsSeatOf turn seat
   pub number : seat.number ≡ p.number + 1
   pub part : IsPart p
-  pub right : (P : PlainPolicy) (G : History) → accepted turn.opened.store.policy ≡ Some P → IsFront P turn.opened.store G
-      → AreRight P p.number (G ++ turn.opened.store.entries) (map Done G ++ seat.seen) (told_of p)
+  pub right : (says : Replies) (G : History) → SaysFromStore turn.opened.store says G
+      → AreRight says p.number (G ++ turn.opened.store.entries) (map Done G ++ seat.seen) (told_of p)
 
 -- The answers that are held are those of the lines directly behind the answered ones, which are looks. Each was read off what the reader's board
 -- goes on from, at a place that isn't below what the client was told or read before.
@@ -146,8 +159,7 @@ abbrev pub taken : Part → Option Looks → ℕ
 taken p looks = length p.answers.items + length (held_by looks)
 
 -- One more line is answered, the next one. Its step found a list that begins with all that the seat had seen, with nothing of its own behind. The
--- seat has then seen the list that the step left. With each history that leads to where the store begins before both, it is a step from the one to
--- the other.
+-- seat has then seen the list that the step left. It is a step from the one to the other, by each way to say what is replied as the store would.
 pub record AnswersOne {D : Type 0} (turn : Opening (Sharing D)) (was now : Part) (seat : Knowledge (Sharing D) Event) (seen : List Event) : Type 0 where
   pub line : Line
   pub answer : Answer
@@ -155,5 +167,5 @@ pub record AnswersOne {D : Type 0} (turn : Opening (Sharing D)) (was now : Part)
   pub next : line ≡ slice_index_or was.lines.items (length was.answers.items) line
   pub answers : now.answers.items ≡ was.answers.items ++ answer ∷ []
   pub others : Continues (ByOthers number_of seat.number seat.taken) seat.seen before
-  pub step : (P : PlainPolicy) (G : History) → accepted turn.opened.store.policy ≡ Some P → IsFront P turn.opened.store G
-      → Steps P (entry_of line) (map Done G ++ before) (map Done G ++ seen) (answer_of answer)
+  pub step : (says : Replies) (G : History) → SaysFromStore turn.opened.store says G
+      → Steps says (entry_of line) (map Done G ++ before) (map Done G ++ seen) (answer_of answer)

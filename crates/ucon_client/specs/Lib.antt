@@ -5,6 +5,7 @@ pub mod Dividing
 pub mod Events
 pub mod Feeding
 pub mod Laws
+pub mod LegalAfter
 pub mod Live
 pub mod Looks
 pub mod Reading

@@ -4,8 +4,9 @@ use Rattle.ucon_base.specs.Elements.{Each}
 use Rattle.ucon_base.specs.declared.no_memory.NoMemory.{NoMemory}
 use Rattle.ucon_flow.specs.Seen.{SourceSeen}
 use Rattle.ucon_turn.specs.Turns.{Opening, Knowledge}
+use Rattle.ucon_model.specs.Action.{Trace}
 use Rattle.ucon_model.specs.Document.{ScriptLine, entries_of}
-use Rattle.ucon_model.specs.History.{History}
+use Rattle.ucon_model.specs.History.{History, trace_from}
 use Rattle.ucon_model.specs.LegalRun.{Answered, IsLegalRun, history_made, own_answers}
 use Rattle.ucon_model.specs.Plain.{PlainPolicy}
 use Rattle.ucon_script.specs.declared.coming_script.ComingScript.{ComingScript}
@@ -16,14 +17,16 @@ use Rattle.ucon_syntax.specs.Policies.{accepted}
 use Rattle.ucon_store.specs.declared.event.Event.{Event}
 use Rattle.ucon_store.specs.declared.event.Event.TheVariants.{Done}
 use Rattle.ucon_store.specs.Kept.{Kept}
+use Rattle.ucon_store.specs.Starts.{IsStart}
 use Rattle.ucon_store.specs.Whole.{IsFront}
 use Rattle.ucon_client.specs.declared.client.Client.{Client}
 use Rattle.ucon_client.specs.declared.live_client.LiveClient.{LiveClient}
 use Rattle.ucon_client.specs.declared.part.Part.{Part}
-use Rattle.ucon_client.specs.Answers.{IsAnswered, Serves, told_in}
+use Rattle.ucon_client.specs.Answers.{IsAnswered, SaysFromStore, Serves, told_in}
 use Rattle.ucon_client.specs.Boarded.{IsMarkOf, Sharing}
-use Rattle.ucon_client.specs.Clients.{AreJoined, Served, faulted, told_by}
+use Rattle.ucon_client.specs.Clients.{AreJoined, Replies, Served, faulted, told_by}
 use Rattle.ucon_client.specs.Dividing.{by_client}
+use Rattle.ucon_client.specs.LegalAfter.{IsLegalRunAfter}
 
 -- ---- one client
 
@@ -81,14 +84,18 @@ module _ {S : Type 0} (seen : S → SourceSeen) where
   AreJudged old new first last (Ok u) lines = Says seen old new first last lines × (new.lines.over ≡ true)
   AreJudged old new first last (Err stop) lines = IsJudgedUpTo old new first last lines stop
 
--- The answers are a legal run behind a store's entries, with each history before them that leads to where the store begins. They make another
--- store's entries and mark.
+-- The answers are a legal run behind a store's entries, with each history before them that leads to where the store begins. So they are after each
+-- trace that leads there, and the entries. They make another store's entries and mark.
 pub record AreRunOver {D : Type 0} (old new : Kept D) (told : List Answered) : Type 0 where
   pub legal : (P : PlainPolicy) (H : History) → accepted old.policy ≡ Some P → IsFront P old H
       → IsLegalRun P own_answers (H ++ old.entries) told
   pub made : (P : PlainPolicy) (H : History) → accepted old.policy ≡ Some P → IsFront P old H
       → history_made (H ++ old.entries) told ≡ H ++ new.entries
-  pub fault : (P : PlainPolicy) (H : History) → accepted old.policy ≡ Some P → IsFront P old H → IsMarkOf new.mark (faulted told)
+  pub legal_after : (P : PlainPolicy) (T : Trace) → accepted old.policy ≡ Some P → IsStart P old.point old.before T
+      → IsLegalRunAfter P own_answers (trace_from P T old.entries) (old.before + length old.entries) told
+  pub made_after : (P : PlainPolicy) (T : Trace) → accepted old.policy ≡ Some P → IsStart P old.point old.before T
+      → history_made old.entries told ≡ new.entries
+  pub fault : (P : PlainPolicy) (T : Trace) → accepted old.policy ≡ Some P → IsStart P old.point old.before T → IsMarkOf new.mark (faulted told)
 
 -- The lines that were judged were answered, client by client. If there was always room, these parts hold them with their answers. Otherwise the
 -- lines that were left out count as answered `no memory`, or `stopped` behind a disk fault of their client.
@@ -114,8 +121,8 @@ pub record AreServed {D : Type 0} (turn : Opening (Sharing D)) (seat : Knowledge
   pub clients : List Served
   pub lines_are : map (λ t. t.line) (told_by clients) ≡ by_client (entries_of lines)
   pub callers : Each (λ t. t.line.caller.0 < 64) (told_by clients)
-  pub joined : (P : PlainPolicy) (H : History) → accepted turn.opened.store.policy ≡ Some P → IsFront P turn.opened.store H
-      → AreJoined P (H ++ turn.opened.store.entries) (map Done H ++ seat.seen) seat.taken clients
+  pub joined : (says : Replies) (H : History) → SaysFromStore turn.opened.store says H
+      → AreJoined says (H ++ turn.opened.store.entries) (map Done H ++ seat.seen) seat.taken clients
   pub whole : short ≡ None → Each IsAnswered parts × (told_by clients ≡ told_in parts)
 
 -- lines were judged as they came, and answered so

@@ -1,6 +1,6 @@
 -- What a client's looks become.
 use Rattle.std.specs.Prelude.{◌≡◌, ℕ, ◌≤◌, [], ◌∷◌, ◌++◌, Option, Some, None, ⊤}
-use Rattle.ucon_model.specs.LegalRun.{Answer as Told, disk_fault, no_memory, placed, stopped}
+use Rattle.ucon_model.specs.LegalRun.{Answer as Told, placed}
 use Rattle.ucon_board.specs.Board.{place_of, state_in}
 use Rattle.ucon_board.specs.States.{look_reply}
 use Rattle.ucon_client.specs.declared.answer.Answer.{Answer}

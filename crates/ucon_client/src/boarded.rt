@@ -4,16 +4,13 @@ ghost use Rattle.std.specs.Prelude.{◌≡◌, ◌≢◌, ◌+◌, ◌++◌, ◌
 ghost use Rattle.ucon_base.specs.Elements.{Each};
 ghost use Rattle.ucon_board.specs.Board.{GoesOn};
 ghost use Rattle.ucon_model.specs.History.{History};
-ghost use Rattle.ucon_model.specs.Plain.{PlainPolicy};
-ghost use Rattle.ucon_syntax.specs.Policies.{accepted};
 ghost use Rattle.ucon_turn.specs.Lists.{Continues};
 ghost use Rattle.ucon_store.specs.declared.event.Event.TheVariants.{Done};
 ghost use Rattle.ucon_store.specs.Events.{events_of, number_of};
 ghost use Rattle.ucon_store.specs.Stays.{Stays, stays_same, stays_again};
-ghost use Rattle.ucon_store.specs.Whole.{IsFront};
-ghost use Rattle.ucon_client.specs.Answers.{AreReadersAt, answer_of, entry_of};
+ghost use Rattle.ucon_client.specs.Answers.{AreReadersAt, SaysFromStore, answer_of, entry_of};
 ghost use Rattle.ucon_client.specs.Boarded.{IsOfSteps, IsShownBy, identity};
-ghost use Rattle.ucon_client.specs.Clients.{Steps};
+ghost use Rattle.ucon_client.specs.Clients.{Replies, Steps};
 ghost use Rattle.ucon_client.specs.Events.{EndsAtMark};
 ghost use Rattle.ucon_client.specs.Looks.{IsConfirmed};
 ghost use Rattle.ucon_client.specs.Steps.{base_of};
@@ -24,7 +21,7 @@ use std::alloc::Global;
 use std::marker::Model;
 use std::sync::Wait;
 use ucon_base::NoMemory;
-use ucon_board::{BoardReader, BoardWriter, board, boards_show_entries};
+use ucon_board::{BoardReader, BoardWriter, board, boards_show_entries, replies_tell_states};
 use ucon_disk::Disk;
 use ucon_engine::Engine;
 use ucon_script::Line;
@@ -119,8 +116,8 @@ impl<E: Engine, D: Disk> Boarded<E, D> {
         ensures board { option_map identity self.new.board ≡ option_map identity self.old.board }
         ensures stays { Stays D.seen self.old.store self.new.store }
         ensures events { Continues (λ event. number_of event ≡ line.now.caller.0 + 1) (events_of self.old.store) (events_of self.new.store) }
-        ensures steps { (P : PlainPolicy) (G : History) → accepted self.old.store.policy ≡ Some P → IsFront P self.old.store G
-            → Steps P (entry_of line.now) (map Done G ++ events_of self.old.store) (map Done G ++ events_of self.new.store) (answer_of result) }
+        ensures steps { (says : Replies) (G : History) → SaysFromStore self.old.store says G
+            → Steps says (entry_of line.now) (map Done G ++ events_of self.old.store) (map Done G ++ events_of self.new.store) (answer_of result) }
     {
         let said = self.store.step(alloc, line.caller, &line.command);
         publish(rt, alloc, &mut self.writer, &said);
@@ -133,10 +130,11 @@ impl<E: Engine, D: Disk> Boarded<E, D> {
         ensures which { reader.new.which ≡ reader.old.which }
         ensures later { GoesOn reader.old.board reader.new.board }
         ensures ends { (G : History) → EndsAtMark (map Done G ++ events_of self.now.store) }
-        ensures confirmed { result ≡ true → (P : PlainPolicy) (G : History) → accepted self.now.store.policy ≡ Some P → IsFront P self.now.store G
-            → IsConfirmed P (map Done G ++ events_of self.now.store) reader.new.board }
+        ensures confirmed { result ≡ true → (says : Replies) (G : History) → SaysFromStore self.now.store says G
+            → IsConfirmed says (map Done G ++ events_of self.now.store) reader.new.board }
     {
         boards_show_entries();
+        replies_tell_states();
         match &self.writer {
             Some(writer) => writer.confirm(rt, reader),
             None => false,

@@ -12,7 +12,7 @@ use crate::part::Part;
 use crate::step::{Confirm, ConfirmedStep, Step};
 use std::alloc::Global;
 use std::sync::Wait;
-use ucon_board::{BoardReader, replies_tell_states};
+use ucon_board::BoardReader;
 use ucon_disk::Disk;
 use ucon_engine::Engine;
 use ucon_turn::{Seat, Turn};
@@ -137,7 +137,6 @@ impl<E: Engine, D: Disk> Client<E, D> {
         ensures unconfirmed { result ≡ false → (self.new.part ≡ self.old.part) × (self.new.looks ≡ None) }
         ensures kept { Keeps self.old.part self.new.part }
     {
-        replies_tell_states();
         let place = self.taken();
         let Some(looks) = self.looks.take() else {
             return false;
@@ -205,7 +204,6 @@ impl<E: Engine, D: Disk> Client<E, D> {
         ensures unconfirmed { result ≡ false → (self.new.part ≡ self.old.part) × (self.new.looks ≡ None) }
         ensures kept { Keeps self.old.part self.new.part }
     {
-        replies_tell_states();
         let Some(looks) = self.looks.take() else {
             return false;
         };

@@ -4,15 +4,18 @@ ghost use Rattle.std.specs.Prelude.{◌≡◌, ℕ, ◌+◌, ◌<◌, ◌≤◌,
 ghost use Rattle.ucon_base.specs.Elements.{Each};
 ghost use Rattle.ucon_turn.specs.Lists.{Has};
 ghost use Rattle.ucon_turn.specs.Turns.{IsSeatOf};
-ghost use Rattle.ucon_model.specs.History.{History};
+ghost use Rattle.ucon_model.specs.Action.{Trace};
+ghost use Rattle.ucon_model.specs.History.{History, trace_from};
 ghost use Rattle.ucon_model.specs.Plain.{PlainPolicy};
 ghost use Rattle.ucon_model.specs.LegalRun.{IsLegalRun, own_answers, history_made};
-ghost use Rattle.ucon_client.specs.Answers.{AreReadersAt, IsPart, IsAnswered, IsReaderAt, ServesWith, Keeps, asked, lines_in, number, served_of, told_in};
-ghost use Rattle.ucon_client.specs.Clients.{AreRising, AreJoined, faulted};
+ghost use Rattle.ucon_client.specs.Answers.{AreReadersAt, IsPart, IsAnswered, IsReaderAt, SaysFromStore, ServesWith, Keeps, asked, lines_in, number, served_of, told_in};
+ghost use Rattle.ucon_client.specs.Clients.{AreRising, AreJoined, Replies, faulted};
 ghost use Rattle.ucon_client.specs.Boarded.{IsMarkOf};
+ghost use Rattle.ucon_client.specs.LegalAfter.{IsLegalRunAfter};
 ghost use Rattle.ucon_syntax.specs.Policies.{accepted};
 ghost use Rattle.ucon_store.specs.declared.event.Event.TheVariants.{Done};
 ghost use Rattle.ucon_store.specs.Events.{events_of};
+ghost use Rattle.ucon_store.specs.Starts.{IsStart};
 ghost use Rattle.ucon_store.specs.Stays.{Stays};
 ghost use Rattle.ucon_store.specs.Whole.{IsFront};
 
@@ -95,8 +98,8 @@ pub(crate) fn join_all<E: Engine, D: Disk>(
     ensures turn { IsSeatOf turn.now seat.new × (seat.new.number ≡ 0) × (seat.new.given ≡ seat.old.given) }
     ensures parts { parts.new.items ≡ map (λ c. c.part) clients.items }
     ensures back { Each (λ p. Has seat.new.taken (p.number + 1)) parts.new.items }
-    ensures joined { (P : PlainPolicy) (H : History) → accepted turn.now.opened.store.policy ≡ Some P → IsFront P turn.now.opened.store H
-        → AreJoined P (H ++ turn.now.opened.store.entries) (map Done H ++ seat.new.seen) seat.new.taken (map served_of parts.new.items) }
+    ensures joined { (says : Replies) (H : History) → SaysFromStore turn.now.opened.store says H
+        → AreJoined says (H ++ turn.now.opened.store.entries) (map Done H ++ seat.new.seen) seat.new.taken (map served_of parts.new.items) }
 {
     let mut clients = clients;
     for _place in 0..clients.len() {
@@ -114,7 +117,7 @@ pub(crate) fn join_all<E: Engine, D: Disk>(
 /// Answers the lines of all parts through one store, each part in a thread of its own. Where a board shows the store, looks are read there as far as
 /// they can be. All memory but that of the steps and of the board is taken before the first line, and where there is none for it the store and the
 /// parts come back as they were. The answers of all together are a legal run behind the store's entries, with each history before them that leads
-/// to where the store begins.
+/// to where the store begins. So they are after each trace that leads there, and the entries.
 pub fn serve<E: Engine + Send, D: Disk + Send, G: Gate + Sync, R: Threads + Wait + Sync>(
     rt: &R,
     alloc: Global,
@@ -137,8 +140,13 @@ pub fn serve<E: Engine + Send, D: Disk + Send, G: Gate + Sync, R: Threads + Wait
         → IsLegalRun P own_answers (H ++ boarded.store.entries) (told_in r.1.items)) }
     ensures made { IfOk result (λ r. (P : PlainPolicy) (H : History) → accepted boarded.store.policy ≡ Some P → IsFront P boarded.store H
         → history_made (H ++ boarded.store.entries) (told_in r.1.items) ≡ H ++ r.0.entries) }
-    ensures fault { IfOk result (λ r. (P : PlainPolicy) (H : History) → accepted boarded.store.policy ≡ Some P → IsFront P boarded.store H
-        → IsMarkOf r.0.mark (faulted (told_in r.1.items))) }
+    ensures legal_after { IfOk result (λ r. (P : PlainPolicy) (T : Trace) → accepted boarded.store.policy ≡ Some P
+        → IsStart P boarded.store.point boarded.store.before T → IsLegalRunAfter P own_answers (trace_from P T boarded.store.entries)
+        (boarded.store.before + length boarded.store.entries) (told_in r.1.items)) }
+    ensures made_after { IfOk result (λ r. (P : PlainPolicy) (T : Trace) → accepted boarded.store.policy ≡ Some P
+        → IsStart P boarded.store.point boarded.store.before T → history_made boarded.store.entries (told_in r.1.items) ≡ r.0.entries) }
+    ensures fault { IfOk result (λ r. (P : PlainPolicy) (T : Trace) → accepted boarded.store.policy ≡ Some P
+        → IsStart P boarded.store.point boarded.store.before T → IsMarkOf r.0.mark (faulted (told_in r.1.items))) }
 {
     let (mut clients, mut answered) = match room_for(alloc, parts.len()) {
         Ok(room) => room,

@@ -46,7 +46,7 @@ module _ {D : Type 0} (sees : Caller → Caller → Bool) (threads : Bool) (P : 
   went_out so holds = record {
     told = answers.told;
     lines_are = answers.lines_are;
-    serial = answers.serial;
+    after = answers.after;
     run = answers.run;
     is_so = (answers.is_so.0, subst so (sym answers.is_so.1) holds);
   }

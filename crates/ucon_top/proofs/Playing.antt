@@ -1,7 +1,6 @@
 -- From the opening of a journal to its closing: what was played over it.
 use Rattle.std.proofs.Common.{Bool, ⊎_elim, ◌≡◌, ◌⊎◌, ◌↔◌, ℕ, ◌+◌, ◌<◌, ◌≤◌, true, false, List, [], ◌∷◌, ◌++◌, length, length-append, refl, sym, ap, subst, ◌∙◌, inl, inr, arith}
 use Rattle.std.specs.Prelude.{Option, Some, None, Ok, is_some, IsSome, IfSome, ⊤}
-use Rattle.std.specs.Bool.{OnFalse}
 use Rattle.std.specs.Io.KnownBytes.{Appends}
 use Rattle.ucon_flow.specs.Writing.{AppendsPrefix}
 use Rattle.ucon_disk.specs.Causes.{raised}
@@ -15,7 +14,7 @@ use Rattle.ucon_model.specs.Document.{ScriptLine, document_read, entries_of, pol
 use Rattle.ucon_model.specs.Action.{Trace}
 use Rattle.ucon_model.specs.History.{History, trace_from}
 use Rattle.ucon_model.specs.Plain.{Bytes, PlainPolicy}
-use Rattle.ucon_model.specs.LegalRun.{Answered, IsLegalRun, history_made}
+use Rattle.ucon_model.specs.LegalRun.{Answered, history_made}
 use Rattle.ucon_model.specs.StoredRun.{failed_line}
 use Rattle.ucon_syntax.specs.Policies.{accepted}
 use Rattle.ucon_store.specs.Found.{IsFoundAs, IsFoundMarked, IsFoundWith, found_with}
@@ -29,7 +28,7 @@ use Rattle.ucon_store.specs.Opening.{IsSeenAs, Opens}
 use Rattle.ucon_store.specs.Points.{IsOld, SamePlaces, has_points}
 use Rattle.ucon_store.specs.Starts.{BeginsAt, IsStart}
 use Rattle.ucon_store.specs.Stays.{IsFoundBetween}
-use Rattle.ucon_store.specs.Whole.{GoesOnFrom, IsFounded, IsFront, found_founded, trace_behind, whole}
+use Rattle.ucon_store.specs.Whole.{GoesOnFrom, IsFounded, found_founded, trace_behind, whole}
 use Rattle.ucon_top.specs.declared.form.Form.{Form}
 use Rattle.ucon_outcome.specs.declared.outcome.Outcome.{Outcome}
 use Rattle.ucon_outcome.specs.declared.outcome.Outcome.TheVariants as outcomes
@@ -39,9 +38,8 @@ use Rattle.ucon_top.specs.Form.{output_order, sees_by}
 use Rattle.ucon_trial.specs.Runs.{IsUnfaulted}
 use Rattle.ucon_top.specs.Seen.{as_it_was}
 use Rattle.ucon_top.specs.Keeping.{KeepsFile}
-use Rattle.ucon_top.specs.Played.{AreOf, IsAnsweredInOrder}
-use Rattle.ucon_top.specs.Serial.{AreSerialAfter}
-use Rattle.ucon_top.specs.Stepping.{AreAnswered, AreAnsweredAfter, HaveOutput, IsRunBetween, entries_of_all}
+use Rattle.ucon_top.specs.Played.{AreOf, IsAnsweredFrom}
+use Rattle.ucon_top.specs.Stepping.{AreAnswered, AreRunAfter, HaveOutput, IsRunAfter, IsRunBetween, entries_of_all}
 use Rattle.ucon_top.specs.Traits.{traits}
 use Rattle.ucon_top.specs.Unread.{IsUnread}
 use Rattle.ucon_top.specs.OwnReading.{HasPlayed, HasPlayedInput, IsFoundSince, IsOwnState, IsPlayed, IsRunOver}
@@ -72,10 +70,11 @@ pub if_so : (o : Option Bytes) {so then : Bytes → Type 0} → ((file : Bytes) 
 if_so None each h = tt
 if_so (Some file) each h = each file h
 
--- what is so without threads
-on_false : (b : Bool) {A B : Type 0} → (A → B) → OnFalse b A → OnFalse b B
-on_false true f h = tt
-on_false false f h = f h
+-- where no line met a disk fault, none was stopped
+unfaulted : (sees : Caller → Caller → Bool) (threads : Bool) (P : PlainPolicy) (T : Trace) (n : ℕ) (told : List Answered)
+    → AreRunAfter sees threads P T n told → failed_line told ≡ None → IsUnfaulted told
+unfaulted sees true P T n told legal none = none_faulted P sees T n told legal none
+unfaulted sees false P T n told serial none = serial_unfaulted P T n told serial none
 
 -- How a run of lines over a store ended: no line met a fault and the output is whole, a front of it went out, a line met a disk fault, or there was
 -- no memory.
@@ -236,14 +235,14 @@ module _ {D : Type 0} (seen : D → DiskSeen) where
 
     -- ---- the answers, after the trace that leads to where the store begins
 
-    in_order : (told : List Answered) → AreAnsweredAfter P opened.begun store closed told
-        → IsAnsweredInOrder P (trace_behind P opened.begun store) (entries_of_all store) (seen disk) (seen now) told
-    in_order told after = record {
-      serial = after.serial;
+    answered_from : (form : Form) (told : List Answered) → IsRunAfter (sees_by form) (traits form).threads P opened.begun store closed told
+        → IsAnsweredFrom form P (trace_behind P opened.begun store) (entries_of_all store) (seen disk) (seen now) told
+    answered_from form told after = record {
+      answers = after.answers;
       unfailed = λ none. ap (λ d. (seen d).faults) closes.disk_is
-          ∙ closes.stays.unfailed (ap is_some (after.mark ∙ ap marked none) ∙ sym (ap is_some opened.unmarked)) ∙ opened.unfailed;
+          ∙ closes.stays.unfailed (ap is_some (after.failed ∙ ap marked none) ∙ sym (ap is_some opened.unmarked)) ∙ opened.unfailed;
       failed = λ e is. ap (λ d. (seen d).faults) closes.disk_is
-          ∙ closes.stays.failed opened.unmarked (e ∷ []) (after.mark ∙ ap marked is) ∙ ap raised opened.unfailed;
+          ∙ closes.stays.failed opened.unmarked (e ∷ []) (after.failed ∙ ap marked is) ∙ ap raised opened.unfailed;
     }
 
     -- ---- all of it
@@ -255,28 +254,23 @@ module _ {D : Type 0} (seen : D → DiskSeen) where
 
       module _ (given : List Answered → Type 0)
           (answers : AreAnswered (sees_by form) (traits form).threads P store closed Lines given)
-          (caused : (sees : Caller → Caller → Bool) (H : History) (told : List Answered) → IsLegalRun P sees H told → closed.mark ≡ marked (failed_line told) → causes told)
-          (caused_after : (T : Trace) (n : ℕ) (told : List Answered) → AreSerialAfter P T n told → closed.mark ≡ marked (failed_line told) → causes told)
+          (caused : (T : Trace) (n : ℕ) (told : List Answered) → AreRunAfter (sees_by form) (traits form).threads P T n told
+          → closed.mark ≡ marked (failed_line told) → causes told)
           (makes : (told : List Answered) → given told → so Lines told) where
         behind : (file : Bytes) (opening : History) → (seen disk).contents ≡ Some file → IsFoundAs text file opening
-            → (length opening ≡ entries_of_all store) × IsPlayed (sees_by form) text P file opening (seen disk) (seen now) answers.told × causes answers.told
+            → (length opening ≡ entries_of_all store) × IsPlayed (sees_by form) text P file opening (seen disk) (seen now) answers.told
         behind file opening is found =
             let goes = opened.founded file opening is found in
             let G = goes.before in
             let found_so = subst (λ (H : History). IsFoundAs text file H) goes.all found in
-            let run = answers.run G goes.founded.front in
-            subst (λ (H : History). (length H ≡ entries_of_all store) × IsPlayed (sees_by form) text P file H (seen disk) (seen now) answers.told × causes answers.told)
+            subst (λ (H : History). (length H ≡ entries_of_all store) × IsPlayed (sees_by form) text P file H (seen disk) (seen now) answers.told)
             (sym goes.all) (
               length-append G store.entries ∙ ap (λ (n : ℕ). n + length store.entries) goes.founded.front.count,
-              played file is G goes.founded found_so (sees_by form) answers.told run,
-              caused (sees_by form) (G ++ store.entries) answers.told run.legal run.failed,
+              played file is G goes.founded found_so (sees_by form) answers.told (answers.run G goes.founded.front),
             )
 
-        after_there : ((T : Trace) → IsStart P store.point store.before T → AreAnsweredAfter P T store closed answers.told)
-            → IsAnsweredInOrder P (trace_behind P opened.begun store) (entries_of_all store) (seen disk) (seen now) answers.told × causes answers.told
-        after_there each =
-            let after = each opened.begun opened.starts in
-            (in_order answers.told after, caused_after (trace_behind P opened.begun store) (entries_of_all store) answers.told after.serial after.mark)
+        answered_there : IsRunAfter (sees_by form) (traits form).threads P opened.begun store closed answers.told
+        answered_there = answers.after opened.begun opened.starts
 
         pub run_over : IsRunOver form bytes are (seen disk) (seen now) causes so
         run_over = record {
@@ -292,9 +286,10 @@ module _ {D : Type 0} (seen : D → DiskSeen) where
           told = answers.told;
           lines_are = answers.lines_are;
           is_so = makes answers.told answers.is_so;
-          serial = on_false (traits form).threads after_there answers.serial;
+          caused = caused (trace_behind P opened.begun store) (entries_of_all store) answers.told answered_there.answers answered_there.failed;
+          after = answered_from form answers.told answered_there;
           run = subst (λ (t : Bytes). (file : Bytes) (opening : History) → (seen disk).contents ≡ Some file → IsFoundAs t file opening
-              → (length opening ≡ entries_of_all store) × IsPlayed (sees_by form) t P file opening (seen disk) (seen now) answers.told × causes answers.told)
+              → (length opening ≡ entries_of_all store) × IsPlayed (sees_by form) t P file opening (seen disk) (seen now) answers.told)
               is_text behind;
         }
 
@@ -311,8 +306,8 @@ module _ {D : Type 0} (seen : D → DiskSeen) where
 
       over : (causes : List Answered → Type 0) (so : List Entry → List Answered → Type 0) (given : List Answered → Type 0)
           → AreAnswered (sees_by form) (traits form).threads P store closed Entries given
-          → ((sees : Caller → Caller → Bool) (H : History) (told : List Answered) → IsLegalRun P sees H told → closed.mark ≡ marked (failed_line told) → causes told)
-          → ((T : Trace) (n : ℕ) (told : List Answered) → AreSerialAfter P T n told → closed.mark ≡ marked (failed_line told) → causes told)
+          → ((T : Trace) (n : ℕ) (told : List Answered) → AreRunAfter (sees_by form) (traits form).threads P T n told
+          → closed.mark ≡ marked (failed_line told) → causes told)
           → ((told : List Answered) → given told → so Entries told)
           → IsRunOver form bytes are (seen disk) (seen now) causes so
       over = run_over moments P text disk store closed now opened closes form bytes are lines is_text has_policy says
@@ -332,21 +327,21 @@ module _ {D : Type 0} (seen : D → DiskSeen) where
       ends outcomes.Done of by e = (
         over (λ told. (failed_line told ≡ None) × IsUnfaulted told) (HaveOutput (Appends was.contents written.contents))
             (HaveOutput (Appends was.contents written.contents) Entries) e
-            (λ sees H told legal marks. let none = no_line by told marks in (none, none_faulted P sees H told legal none))
-            (λ T n told serial marks. let none = no_line by told marks in (none, serial_unfaulted P T n told serial none))
+            (λ T n told run marks.
+            let none = no_line by told marks in (none, unfaulted (sees_by form) (traits form).threads P T n told run none))
             (λ told output. output),
         unfailed by,
       )
       ends outcomes.SinkFault of by e =
           over (λ told. ⊤) (HaveOutput (AppendsPrefix was.contents written.contents)) (HaveOutput (AppendsPrefix was.contents written.contents) Entries) e
-          (λ sees H told legal marks. tt) (λ T n told serial marks. tt) (λ told output. output)
+          (λ T n told run marks. tt) (λ told output. output)
       ends outcomes.DiskFault of by e =
           over (λ told. IsSome (failed_line told)) (HaveOutput (Appends was.contents written.contents))
           (HaveOutput (Appends was.contents written.contents) Entries) e
-          (λ sees H told legal marks. one_line by told marks) (λ T n told serial marks. one_line by told marks) (λ told output. output)
+          (λ T n told run marks. one_line by told marks) (λ told output. output)
       ends (outcomes.NoMemory m) of by e =
           over (λ told. ⊤) (λ (es : List Entry) (told : List Answered). ⊤) (λ (told : List Answered). ⊤) e
-          (λ sees H told legal marks. tt) (λ T n told serial marks. tt) (λ told nothing. tt)
+          (λ T n told run marks. tt) (λ told nothing. tt)
       ends outcome of by e = absurd (cc (of.0, of.1))
 
     pub over_store : (outcome : Outcome) → IsOfRun outcome

@@ -4,16 +4,18 @@ use Rattle.std.specs.Prelude.{◌<◌, Option, None, is_some, ⊤}
 use Rattle.ucon_base.specs.Elements.{Each}
 use Rattle.ucon_model.specs.declared.command.Caller.{Caller}
 use Rattle.ucon_model.specs.declared.command.Entry.{Entry}
+use Rattle.ucon_model.specs.Action.{Trace}
 use Rattle.ucon_model.specs.History.{History}
 use Rattle.ucon_model.specs.Plain.{Bytes, PlainPolicy}
 use Rattle.ucon_model.specs.LegalRun.{Answered}
 use Rattle.ucon_model.specs.Output.{FitsLine, output}
 use Rattle.ucon_store.specs.Kept.{Kept}
+use Rattle.ucon_store.specs.Starts.{IsStart}
 use Rattle.ucon_store.specs.Stays.{Stays, stays_same}
 use Rattle.ucon_store.specs.Whole.{IsFront, whole}
 use Rattle.ucon_outcome.specs.declared.outcome.Outcome.{Outcome}
 use Rattle.ucon_top.specs.Closing.{IsClosedRun, IsMarkedBy, IsToldBy, IsWritten}
-use Rattle.ucon_top.specs.Stepping.{AreAnswered, IsRunBetween}
+use Rattle.ucon_top.specs.Stepping.{AreAnswered, IsRunAfter, IsRunBetween}
 use Rattle.ucon_top.proofs.Answering.{AreLegal, AreReadBack, text_read, unanswered, untold}
 use Rattle.ucon_top.proofs.Closing.{ends_so, marked_so}
 use Rattle.ucon_disk.specs.Seen.{DiskSeen}
@@ -34,6 +36,7 @@ module _ {D : Type 0} (seen : D → DiskSeen)
 
   -- it was closed behind these answers, whose output was written so
   module _ (opened closed : Kept D) (told : List Answered) (disk : D) (stays : Stays seen opened closed)
+      (after : (T : Trace) → IsStart P opened.point opened.before T → IsRunAfter sees true P T opened closed told)
       (run : (G : History) → IsFront P opened G → IsRunBetween sees P (whole G opened) (whole G closed) told) (disk_is : disk ≡ closed.disk) where
     abbrev Lines : List Entry
     Lines = map (λ (t : Answered). t.line) told
@@ -51,9 +54,9 @@ module _ {D : Type 0} (seen : D → DiskSeen)
     closed_written back outcome text stopped failed fails is fits clients is_stopped written =
         closed_behind outcome (marked_so outcome closed.mark text stopped before now failed fails is_stopped written)
         (ends_so sees true P opened closed Lines text stopped before now failed fails
-        (text_read sees true P opened closed Lines told refl tt run back text is fits clients) outcome written)
+        (text_read sees true P opened closed Lines told refl after run back text is fits clients) outcome written)
 
     pub closed_untold : (outcome : Outcome) → IsMarkedBy outcome closed.mark
         → (AreAnswered sees true P opened closed Lines (λ told. ⊤) → AreAnswered sees true P opened closed Lines (IsToldBy Lines before now outcome))
         → IsClosedRun seen sees true P opened Lines outcome disk before now
-    closed_untold outcome marked ends = closed_behind outcome marked (ends (untold sees true P opened closed Lines told refl tt run))
+    closed_untold outcome marked ends = closed_behind outcome marked (ends (untold sees true P opened closed Lines told refl after run))

@@ -1,5 +1,5 @@
 -- From the opening of a journal to its closing, where no line was run: what was told of it.
-use Rattle.std.proofs.Common.{◌≡◌, ℕ, ◌+◌, false, true, [], length, refl, sym, ap, subst, inl, inr, arith}
+use Rattle.std.proofs.Common.{◌≡◌, ℕ, ◌+◌, false, true, [], length, refl, sym, subst, inl, inr}
 use Rattle.std.specs.Prelude.{Option, Some, None, IfSome, Result, Ok, Err, IfOk, OnErr}
 use Rattle.std.specs.Io.KnownBytes.{Appends}
 use Rattle.ucon_flow.specs.Writing.{AppendsPrefix}

@@ -1,6 +1,5 @@
 -- What running a document over the disk of a journal leaves, and how it ends: in the order of the text, or each client in a thread of its own.
 use Rattle.std.specs.Prelude.{◌≡◌, ◌≢◌, ◌⊎◌, ℕ, Bool, List, [], ◌∷◌, ◌++◌, length, map, Option, Some, None, Ok, IsSome, IfSome, ⊤}
-use Rattle.std.specs.Bool.{OnFalse}
 use Rattle.std.specs.Io.KnownBytes.{Appends}
 use Rattle.ucon_flow.specs.Writing.{AppendsPrefix}
 use Rattle.ucon_disk.specs.Causes.{raised}
@@ -26,10 +25,9 @@ use Rattle.ucon_top.specs.Accepted.{HasPolicy}
 use Rattle.ucon_top.specs.Form.{output_order, sees_by}
 use Rattle.ucon_top.specs.Keeping.{KeepsFile}
 use Rattle.ucon_top.specs.Own.{IsOwnStateBy}
-use Rattle.ucon_top.specs.Serial.{AreSerialAfter}
 use Rattle.ucon_top.specs.Traits.{traits}
 use Rattle.ucon_trial.specs.Runs.{IsUnfaulted}
-use Rattle.ucon_top.specs.Stepping.{HaveOutput}
+use Rattle.ucon_top.specs.Stepping.{AreRunAfter, HaveOutput}
 use Rattle.ucon_disk.specs.Seen.{DiskSeen}
 use Rattle.ucon_top.specs.Seen.{IsAsBefore}
 use Rattle.ucon_flow.specs.Seen.{SinkSeen}
@@ -54,18 +52,17 @@ pub record IsPlayedBy (reads : PolicyReading) (sees : Caller → Caller → Bool
   pub since : LeavesOnly old new (λ c. old.images c ⊎ IsFoundSinceBy reads text opening (history_made opening told) (failed_line told) c)
   pub now : (c : Bytes) → new.images c → IsFoundWithBy reads text (history_made opening told) (failed_line told) c
 
--- In the order of the text the lines were answered after a trace of so many entries. If a line met a disk fault the disk's count rose by one, and
--- otherwise it didn't.
-pub record IsAnsweredInOrder (P : PlainPolicy) (T : Trace) (entries : ℕ) (old new : DiskSeen) (told : List Answered) : Type 0 where
-  pub serial : AreSerialAfter P T entries told
+-- The answers are a run after a trace of so many entries: a legal one where each client has a thread, and otherwise the serial one. If a line met a
+-- disk fault the disk's count rose by one, and otherwise it didn't.
+pub record IsAnsweredFrom (form : Form) (P : PlainPolicy) (T : Trace) (entries : ℕ) (old new : DiskSeen) (told : List Answered) : Type 0 where
+  pub answers : AreRunAfter (sees_by form) (traits form).threads P T entries told
   pub unfailed : failed_line told ≡ None → new.faults ≡ old.faults
   pub failed : (e : Entry) → failed_line told ≡ Some e → new.faults ≡ raised old.faults
 
--- The policy part of the bytes is accepted, and lines that are so were answered. Of them and their answers this is so, whatever the disk tells.
--- If the disk told its file, opening saw a fresh one, or a journal under the document's policy. In it were so many entries, and what is there after
--- these actions. Without threads the lines were answered after those, and the answers have these causes. That holds also of a file that opening
--- alone accepts, and of a disk that tells nothing. The records of the file are kept. If it is found as a history, the lines were played behind
--- that.
+-- The policy part of the bytes is accepted, and lines that are so were answered. Of the lines and their answers this is so, and the answers have
+-- these causes, whatever the disk tells. If the disk told its file, opening saw a fresh one, or a journal under the document's policy. In it were so
+-- many entries, and what is there after these actions. The answers are a run after those. That holds also of a file that opening alone accepts, and
+-- after some actions of a disk that tells nothing. The records of the file are kept. If it is found as a history, the lines were played behind that.
 pub record IsRunOverBy (reads : PolicyReading) (form : Form) (bytes : Bytes) (are : List ScriptLine → Type 0) (old new : DiskSeen)
     (causes : List Answered → Type 0) (so : List Entry → List Answered → Type 0) : Type 0 where
   pub policy : PlainPolicy
@@ -79,9 +76,10 @@ pub record IsRunOverBy (reads : PolicyReading) (form : Form) (bytes : Bytes) (ar
   pub told : List Answered
   pub lines_are : map (λ t. t.line) told ≡ output_order form (entries_of lines)
   pub is_so : so (output_order form (entries_of lines)) told
-  pub serial : OnFalse (traits form).threads (IsAnsweredInOrder policy actions entries old new told × causes told)
+  pub caused : causes told
+  pub after : IsAnsweredFrom form policy actions entries old new told
   pub run : (file : Bytes) (opening : History) → old.contents ≡ Some file → IsFoundBy reads (policy_part bytes) file opening
-      → (length opening ≡ entries) × IsPlayedBy reads (sees_by form) (policy_part bytes) policy file opening old new told × causes told
+      → (length opening ≡ entries) × IsPlayedBy reads (sees_by form) (policy_part bytes) policy file opening old new told
 
 -- the lines are those of a document that is accepted
 abbrev pub AreOf : PolicyReading → Bytes → List ScriptLine → Type 0

@@ -1,12 +1,12 @@
 -- What lines are answered over a store.
-use Rattle.std.specs.Prelude.{◌≡◌, ◌⊎◌, ℕ, ◌+◌, Bool, IsTrue, IsSome, List, [], ◌∷◌, length, map, Option, Some, None}
-use Rattle.std.specs.Bool.{OnFalse}
+use Rattle.std.specs.Prelude.{◌≡◌, ◌⊎◌, ℕ, ◌+◌, Bool, IsTrue, IsSome, List, [], ◌∷◌, length, map, Option, Some, None, true, false}
 use Rattle.ucon_model.specs.declared.command.Caller.{Caller}
 use Rattle.ucon_model.specs.declared.command.Entry.{Entry}
 use Rattle.ucon_model.specs.Action.{Trace}
 use Rattle.ucon_model.specs.Block.{reply}
 use Rattle.ucon_model.specs.Plain.{Bytes, PlainPolicy}
 use Rattle.ucon_model.specs.History.{History, said, changes}
+use Rattle.ucon_client.specs.LegalAfter.{IsLegalRunAfter}
 use Rattle.ucon_model.specs.LegalRun.{Answer, Answered, disk_fault, stopped, IsLegalRun, IsNext, history_after, history_made}
 use Rattle.ucon_model.specs.Output.{output, answers_read}
 use Rattle.ucon_model.specs.StoredRun.{LeadsTo, failed_line}
@@ -101,13 +101,25 @@ pub record IsRunBetween {D : Type 0} (sees : Caller → Caller → Bool) (P : Pl
   pub made : history_made old.entries told ≡ new.entries
   pub failed : new.mark ≡ marked (failed_line told)
 
--- These lines were answered, and of their answers this is so. Behind each history that leads to where the store begins they are such a run. If no
--- threads answered them, they are so in the order of the text behind each trace that leads there.
+-- The answers are a run after a trace of so many entries. If threads gave them it is a legal one, where `sees` tells whose earlier answers a caller
+-- saw. Otherwise it is the serial one, in the order of the text.
+abbrev pub AreRunAfter : (sees : Caller → Caller → Bool) (threads : Bool) → PlainPolicy → Trace → ℕ → List Answered → Type 0
+AreRunAfter sees true P T n told = IsLegalRunAfter P sees T n told
+AreRunAfter sees false P T n told = AreSerialAfter P T n told
+
+-- So they are after a trace and a store's entries behind it, and they make another store's mark.
+pub record IsRunAfter {D : Type 0} (sees : Caller → Caller → Bool) (threads : Bool) (P : PlainPolicy) (T : Trace) (old new : Kept D)
+    (told : List Answered) : Type 0 where
+  pub answers : AreRunAfter sees threads P (trace_behind P T old) (entries_of_all old) told
+  pub failed : new.mark ≡ marked (failed_line told)
+
+-- These lines were answered, and of their answers this is so. After each trace that leads to where the store begins they are such a run, and behind
+-- each history that leads there.
 pub record AreAnswered {D : Type 0} (sees : Caller → Caller → Bool) (threads : Bool) (P : PlainPolicy) (old new : Kept D) (lines : List Entry)
     (so : List Answered → Type 0) : Type 0 where
   pub told : List Answered
   pub lines_are : map (λ t. t.line) told ≡ lines
-  pub serial : OnFalse threads ((T : Trace) → IsStart P old.point old.before T → AreAnsweredAfter P T old new told)
+  pub after : (T : Trace) → IsStart P old.point old.before T → IsRunAfter sees threads P T old new told
   pub run : (G : History) → IsFront P old G → IsRunBetween sees P (whole G old) (whole G new) told
   pub is_so : so told
 

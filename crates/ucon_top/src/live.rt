@@ -3,6 +3,7 @@
 ghost use Rattle.std.specs.Prelude.{◌≡◌, ◌<◌, None, Some, map, true, IfErr, OnOk, List};
 ghost use Rattle.ucon_base.specs.Elements.{Each};
 ghost use Rattle.ucon_disk.specs.Causes.{raised};
+ghost use Rattle.ucon_model.specs.Action.{Trace};
 ghost use Rattle.ucon_model.specs.Document.{policy_part};
 ghost use Rattle.ucon_model.specs.History.{History};
 ghost use Rattle.ucon_model.specs.LegalRun.{Answered, own_answers};
@@ -10,6 +11,7 @@ ghost use Rattle.ucon_model.specs.Plain.{Bytes, PlainPolicy};
 ghost use Rattle.ucon_script.specs.Coming.{HasOpened};
 ghost use Rattle.ucon_syntax.specs.Policies.{accepted};
 ghost use Rattle.ucon_store.specs.Kept.{Kept};
+ghost use Rattle.ucon_store.specs.Starts.{IsStart};
 ghost use Rattle.ucon_store.specs.Stays.{Stays};
 ghost use Rattle.ucon_store.specs.Whole.{IsFront, whole};
 ghost use Rattle.ucon_client.specs.Answers.{IsAnswered, told_in};
@@ -19,7 +21,7 @@ ghost use Rattle.ucon_top.specs.Ending.{IsCounted, status_of};
 ghost use Rattle.ucon_top.specs.LiveEnding.{HasMemory, HasRunLive, IsEndOf, IsOfMemory, IsPolicyRefusal};
 ghost use Rattle.ucon_top.specs.OwnReading.{HasLivedInput};
 ghost use Rattle.ucon_top.specs.Seen.{all_seen};
-ghost use Rattle.ucon_top.specs.Stepping.{IsRunBetween};
+ghost use Rattle.ucon_top.specs.Stepping.{IsRunAfter, IsRunBetween};
 
 use crate::serve::end_served;
 use std::alloc::Global;
@@ -157,6 +159,7 @@ fn end_lived<E: Engine, K: Sink, D: Disk>(
     ensures sink { IsCounted result.outcome Outcome.SinkFault (K.seen out.old).faults (K.seen out.new).faults }
     ensures unwritten { IsOfMemory result.outcome → out.new ≡ out.old }
     ensures run { (P : PlainPolicy) (opened : Kept D) (told : List Answered) → Stays D.seen opened lived.store
+        → ((T : Trace) → IsStart P opened.point opened.before T → IsRunAfter own_answers true P T opened lived.store told)
         → ((H : History) → IsFront P opened H → IsRunBetween own_answers P (whole H opened) (whole H lived.store) told)
         → (lived.short ≡ None → told ≡ told_in lived.parts.items)
         → (over : AnOutcome) × IsOfRun over × IsEndOf over lived.stop result.outcome

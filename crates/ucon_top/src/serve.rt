@@ -3,11 +3,13 @@
 ghost use Rattle.std.specs.Prelude.{◌≡◌, ◌⊎◌, ◌<◌, ◌≤◌, length, map, Some, None, true, IfErr, IfOk};
 ghost use Rattle.ucon_base.specs.Elements.{Each};
 ghost use Rattle.ucon_disk.specs.Causes.{raised};
+ghost use Rattle.ucon_model.specs.Action.{Trace};
 ghost use Rattle.ucon_model.specs.History.{History};
 ghost use Rattle.ucon_model.specs.LegalRun.{own_answers};
 ghost use Rattle.ucon_model.specs.Plain.{PlainPolicy};
 ghost use Rattle.ucon_syntax.specs.Policies.{accepted};
 ghost use Rattle.ucon_store.specs.Kept.{Kept};
+ghost use Rattle.ucon_store.specs.Starts.{IsStart};
 ghost use Rattle.ucon_store.specs.Stays.{Stays};
 ghost use Rattle.ucon_store.specs.Whole.{IsFront, whole};
 ghost use Rattle.ucon_client.specs.Answers.{AreReadersAt, IsAnswered, told_in};
@@ -16,7 +18,7 @@ ghost use Rattle.ucon_top.specs.Closing.{IsClosedRun, IsOfRun};
 ghost use Rattle.ucon_top.specs.Form.{asks_for_threads};
 ghost use Rattle.ucon_top.specs.Ending.{IsCounted, IsOfAccepted, IsOfDocument, IsUntouched, IsUnwritten, MayEnd, status_of};
 ghost use Rattle.ucon_trial.specs.OneAnswer.{entry_of};
-ghost use Rattle.ucon_top.specs.Stepping.{IsRunBetween};
+ghost use Rattle.ucon_top.specs.Stepping.{IsRunAfter, IsRunBetween};
 ghost use Rattle.ucon_top.specs.OwnReading.{HasPlayed, IsAccepted, IsRefusedBy};
 
 use crate::document::read_accepted;
@@ -139,6 +141,7 @@ pub(crate) fn end_served<E: Engine, K: Sink, D: Disk>(
     ensures status { result.status ≡ status_of result.outcome }
     ensures of_run { IsOfRun result.outcome }
     ensures run { (P : PlainPolicy) (opened : Kept D) → Stays D.seen opened store
+        → ((T : Trace) → IsStart P opened.point opened.before T → IsRunAfter own_answers true P T opened store (told_in parts.now))
         → ((H : History) → IsFront P opened H → IsRunBetween own_answers P (whole H opened) (whole H store) (told_in parts.now))
         → IsClosedRun D.seen own_answers true P opened (map (λ t. t.line) (told_in parts.now))
         result.outcome result.disk (K.seen out.old).contents (K.seen out.new).contents }

@@ -1,5 +1,5 @@
-use Rattle.std.proofs.Common.{◌≡◌, ◌+◌, [], ◌∷◌, length, arith, ap, ◌∙◌}
-use Rattle.std.proofs.lemmas.List.{length_push}
+use Rattle.std.proofs.Common.{◌≡◌, ◌+◌, [], ◌∷◌, length, arith, sym, ap, ◌∙◌}
+use Rattle.std.proofs.lemmas.List.{append-nil, length_push}
 use Rattle.ucon_client.specs.Live.{as_of}
 use Rattle.ucon_client.proofs.Taking.{one_answered, serves_alone, serves_more}
 use Rattle.ucon_client.proofs.live_client.answer.Goals as goal
@@ -22,3 +22,10 @@ returns-clause-answered g c =
     omega (arith, lines, c.requires.answered, ap (λ answers. length answers) c.add_line.ensures.answers) in
     one_answered c.args.turn.now was c.answer_next.new.self.part c.args.client.now.seat c.answer_next.new.self.seat.seen c.answer_next.ensures.answers
     c.answer_next.ensures.kept long
+
+-- there was no room, so no line is there that wasn't
+pub returns-in-Err-clause-serves : goal.returns-in-Err-clause-serves
+returns-in-Err-clause-serves g c =
+    let was = c.args.client.now.part in
+    serves_more c.args.turn.now was c.add_line.new.part c.args.client.now.seat [] c.requires.serves c.requires.answered c.add_line.ensures.part
+    c.add_line.ensures.number (c.in-Err.ensures.err ∙ sym (append-nil was.lines.items)) c.add_line.ensures.answers

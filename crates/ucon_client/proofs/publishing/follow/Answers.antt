@@ -1,5 +1,4 @@
-use Rattle.std.proofs.Common.{◌≡◌, ◌+◌, sym, ◌∙◌, arith}
-use Rattle.ucon_board.specs.Board.{place_of}
+use Rattle.std.proofs.Common.{sym, ◌∙◌, arith}
 use Rattle.ucon_client.proofs.Posting.{publishes}
 use Rattle.ucon_client.proofs.publishing.follow.Goals as goal
 

@@ -1,4 +1,4 @@
-use Rattle.std.proofs.Common.{◌≡◌, ◌+◌, refl, sym, ap, ◌∙◌, arith}
+use Rattle.std.proofs.Common.{◌+◌, refl, sym, ap, ◌∙◌, arith}
 use Rattle.ucon_state.specs.declared.counts.Counts.{Counts}
 use Rattle.ucon_state.specs.Shown.{shown}
 use Rattle.ucon_client.proofs.Posting.{all_states, one_more_state}

@@ -21,11 +21,11 @@ loop-place-init g c =
     let seen : events opened.entries opened.mark ≡ c.args.seat.now.seen = sym c.requires.seen.1 in
     record {
       turn = (c.requires.turn.0, c.requires.turn.1, refl);
-      joined = λ P H is front.
+      joined = λ says H from.
           let list : map Done (H ++ opened.entries) ≡ map Done H ++ c.args.seat.now.seen =
           events_behind H opened.entries None ∙ ap (λ (l : List Event). map Done H ++ l) (ap (events opened.entries) (sym c.requires.seen.0) ∙ seen) in
-          subst (λ (z : List Event × List ℕ × List Part). AreJoined P (H ++ opened.entries) z.0 z.1 (map served_of z.2))
-          (λ j. (list j, sym c.requires.turn.2 j, sym none j)) (begins_joined P (H ++ opened.entries));
+          subst (λ (z : List Event × List ℕ × List Part). AreJoined says (H ++ opened.entries) z.0 z.1 (map served_of z.2))
+          (λ j. (list j, sym c.requires.turn.2 j, sym none j)) (begins_joined says (H ++ opened.entries));
       back = subst (Each (λ p. Has c.args.seat.now.taken (p.number + 1))) (sym none) tt;
       answered = none;
       rest = refl;
@@ -65,13 +65,13 @@ loop-place-preserved g c =
     ap (map served_of) items ∙ map-append served_of before (client.part ∷ []) in
     record {
       turn = (j.turn, j.kept.0, j.kept.1 ∙ i.turn.2);
-      joined = λ P H is front.
+      joined = λ says H from.
           let done : List Event = map Done H in
           let theirs : Continues (ByOthers number_of (k + 1) []) client.seat.seen now.seen =
           subst (λ m. Continues (ByOthers number_of m []) client.seat.seen now.seen) s.number j.theirs in
-          subst (λ (z : List ℕ × List Served). AreJoined P (H ++ opened.entries) (done ++ now.seen) z.0 z.1) (λ m. (sym taken m, sym served m))
-          (stays_joined P (H ++ opened.entries) (done ++ was.seen) (done ++ client.seat.seen) (done ++ now.seen) was.taken (map served_of before)
-          (served_of client.part) (i.joined P H is front) (s.right P H is front) (below_served k before lower)
+          subst (λ (z : List ℕ × List Served). AreJoined says (H ++ opened.entries) (done ++ now.seen) z.0 z.1) (λ m. (sym taken m, sym served m))
+          (stays_joined says (H ++ opened.entries) (done ++ was.seen) (done ++ client.seat.seen) (done ++ now.seen) was.taken (map served_of before)
+          (served_of client.part) (i.joined says H from) (s.right says H from) (below_served k before lower)
           (⊎_elim (λ e. inl (ap (λ (l : List Event). done ++ l) e)) (λ e. inr (ap (λ (l : List Event). done ++ l) e)) j.longer)
           (continues_behind (ByOthers number_of 0 was.taken) done was.seen now.seen j.ours)
           (continues_behind (ByOthers number_of (k + 1) []) done client.seat.seen now.seen theirs));

@@ -8,24 +8,24 @@ use Rattle.ucon_outcome.specs.declared.outcome.Outcome.TheVariants as outcomes
 use Rattle.ucon_top.specs.Closing.{IsClosedRun}
 use Rattle.ucon_top.specs.Ending.{IsCounted}
 use Rattle.ucon_top.specs.LiveEnding.{IsEndOf}
-use Rattle.ucon_top.specs.Stepping.{IsRunBetween}
+use Rattle.ucon_top.specs.Stepping.{IsRunAfter, IsRunBetween}
 use Rattle.ucon_top.proofs.LiveEnds.{counted_end, unwritten_end}
 use Rattle.ucon_top.proofs.Serving.{closed_untold}
 use Rattle.ucon_top.proofs.live.end_lived.Goals as goal
 
 pub returns-in-Some-clause-run : goal.returns-in-Some-clause-run
-returns-in-Some-clause-run g c = λ P opened told stays run whole.
+returns-in-Some-clause-run g c = λ P opened told stays after run whole.
     let before = (g.K.Sink.seen c.args.out.now).contents in
     let over : Outcome = outcomes.NoMemory c.in-Some.want in (
       over,
       (refl, refl),
       c.by.ensures.outcome,
       closed_untold g.D.Disk.seen own_answers P before before opened c.args.lived.store told
-          c.by.result.disk stays run (c.by.ensures.disk ∙ c.close.ensures.disk) over tt (λ answers. answers),
+          c.by.result.disk stays after run (c.by.ensures.disk ∙ c.close.ensures.disk) over tt (λ answers. answers),
     )
 
 pub returns-clause-run : goal.returns-clause-run
-returns-clause-run g c = λ P opened told stays run whole.
+returns-clause-run g c = λ P opened told stays after run whole.
     let store = c.args.lived.store in
     let parts = c.args.lived.parts.items in
     let stop = c.args.lived.stop in
@@ -37,6 +37,7 @@ returns-clause-run g c = λ P opened told stays run whole.
     let closed : IsClosedRun g.D.Disk.seen own_answers true P opened (map (λ (t : Answered). t.line) told) ended.result.outcome ended.result.disk before now =
     subst (λ (ts : List Answered). IsClosedRun g.D.Disk.seen own_answers true P opened (map (λ (t : Answered). t.line) ts) ended.result.outcome ended.result.disk before now) (sym is)
     (ended.ensures.run P opened stays
+    (λ T starts. subst (λ (ts : List Answered). IsRunAfter own_answers true P T opened store ts) is (after T starts))
     (λ H front. subst (λ (ts : List Answered). IsRunBetween own_answers P (whole_of H opened) (whole_of H store) ts) is (run H front))) in (
       ended.result.outcome,
       ended.ensures.of_run,

@@ -1,13 +1,15 @@
 use Rattle.std.proofs.Common.{true, ◌≡◌, ◌<◌, Some, List, [], map, sym, ap, subst, ◌∙◌, inl, inr}
 use Rattle.ucon_base.specs.Elements.{Each}
 use Rattle.ucon_model.specs.declared.command.Entry.{Entry}
-use Rattle.ucon_model.specs.History.{History}
+use Rattle.ucon_model.specs.Action.{Trace}
+use Rattle.ucon_model.specs.History.{History, trace}
 use Rattle.ucon_model.specs.LegalRun.{Answered, own_answers}
 use Rattle.ucon_store.specs.Kept.{Kept}
 use Rattle.ucon_store.specs.Marks.{marked}
+use Rattle.ucon_store.specs.Starts.{IsStart}
 use Rattle.ucon_store.specs.Whole.{IsFront, whole}
 use Rattle.ucon_top.specs.Closing.{IsClosedRun}
-use Rattle.ucon_top.specs.Stepping.{IsRunBetween}
+use Rattle.ucon_top.specs.Stepping.{IsRunAfter, IsRunBetween}
 use Rattle.ucon_top.proofs.Answering.{AreLegal, failed_first}
 use Rattle.ucon_top.proofs.LiveEnds.{source_counted}
 use Rattle.ucon_top.proofs.Serving.{closed_at_once}
@@ -19,13 +21,18 @@ returns-in-Ok-clause-run g c = λ P accepts.
     let lived = c.in-Ok.lived in
     let h = c.in-Ok.ensures.lived in
     let told = h.are_lived.told in
+    let after : (T : Trace) → IsStart P store.point store.before T → IsRunAfter own_answers true P T store lived.store told =
+    λ T starts. let mark = h.are_lived.run.fault P T accepts starts in record {
+      answers = h.are_lived.run.legal_after P T accepts starts;
+      failed = mark.is ∙ ap marked (sym (failed_first told mark.failed mark.lines_are));
+    } in
     let run : (H : History) → IsFront P store H → IsRunBetween own_answers P (whole H store) (whole H lived.store) told =
-    λ H front. let mark = h.are_lived.run.fault P H accepts front in record {
+    λ H front. let mark = h.are_lived.run.fault P (trace P H) accepts front.starts in record {
       legal = h.are_lived.run.legal P H accepts front;
       made = h.are_lived.run.made P H accepts front;
       failed = mark.is ∙ ap marked (sym (failed_first told mark.failed mark.lines_are));
     } in
-    let e = c.end_lived.ensures.run P store told c.in-Ok.ensures.stays run (λ none. (h.are_lived.whole none).1) in
+    let e = c.end_lived.ensures.run P store told c.in-Ok.ensures.stays after run (λ none. (h.are_lived.whole none).1) in
     inl (record {
       lines = h.lines;
       stop = lived.stop;

@@ -13,7 +13,7 @@ use Rattle.ucon_top.proofs.Serving.{closed_untold, closed_written}
 use Rattle.ucon_top.proofs.serve.end_served.Goals as goal
 
 pub returns-in-Ok-clause-run : goal.returns-in-Ok-clause-run
-returns-in-Ok-clause-run g c = λ P opened stays run.
+returns-in-Ok-clause-run g c = λ P opened stays after run.
     let closed = c.args.store in
     let told : List Answered = told_in c.args.parts.now in
     let before = (g.K.Sink.seen c.args.out.now).contents in
@@ -29,15 +29,15 @@ returns-in-Ok-clause-run g c = λ P opened stays run.
     subst (λ (o : Outcome). IsClosedRun g.D.Disk.seen own_answers true P opened
     (map (λ (t : Answered). t.line) told) o c.by.result.disk before now) (sym c.by.ensures.outcome)
     (closed_written g.D.Disk.seen own_answers P before now opened closed told
-    c.by.result.disk stays run (c.by.ensures.disk ∙ c.close-disk.ensures.disk)
+    c.by.result.disk stays after run (c.by.ensures.disk ∙ c.close-disk.ensures.disk)
     c.outputs_are_read_back.ensures c.write_output.result c.in-Ok.text.items stopped failed fails c.in-Ok.ensures.text c.in-Ok.ensures.fits clients is_stopped written)
 
 pub returns-in-Err-clause-run : goal.returns-in-Err-clause-run
-returns-in-Err-clause-run g c = λ P opened stays run.
+returns-in-Err-clause-run g c = λ P opened stays after run.
     let told : List Answered = told_in c.args.parts.now in
     let before = (g.K.Sink.seen c.args.out.now).contents in
     closed_untold g.D.Disk.seen own_answers P before before opened c.args.store told
-    c.by-in-Err.result.disk stays run (c.by-in-Err.ensures.disk ∙ c.close-disk.ensures.disk)
+    c.by-in-Err.result.disk stays after run (c.by-in-Err.ensures.disk ∙ c.close-disk.ensures.disk)
     c.by-in-Err.result.outcome (rw c.by-in-Err.ensures.outcome tt) (rw c.by-in-Err.ensures.outcome (λ answers. answers))
 
 pub returns-in-Ok-clause-sink : goal.returns-in-Ok-clause-sink

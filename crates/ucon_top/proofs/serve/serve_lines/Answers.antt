@@ -1,17 +1,19 @@
 use Rattle.std.proofs.Common.{true, ◌≡◌, Some, List, map, sym, ap, subst, ◌∙◌}
 use Rattle.ucon_model.specs.declared.command.Entry.{Entry}
-use Rattle.ucon_model.specs.History.{History}
+use Rattle.ucon_model.specs.Action.{Trace}
+use Rattle.ucon_model.specs.History.{History, trace}
 use Rattle.ucon_model.specs.LegalRun.{Answered, own_answers}
 use Rattle.ucon_store.specs.Kept.{Kept}
 use Rattle.ucon_syntax.specs.Policies.{accepted}
 use Rattle.ucon_store.specs.Marks.{marked}
+use Rattle.ucon_store.specs.Starts.{IsStart}
 use Rattle.ucon_store.specs.Whole.{IsFront, whole}
 use Rattle.ucon_client.specs.declared.part.Part.{Part}
 use Rattle.ucon_client.specs.Answers.{told_in}
 use Rattle.ucon_client.specs.Dividing.{by_client}
 use Rattle.ucon_top.specs.Closing.{IsClosedRun}
 use Rattle.ucon_trial.specs.OneAnswer.{entry_of}
-use Rattle.ucon_top.specs.Stepping.{IsRunBetween}
+use Rattle.ucon_top.specs.Stepping.{IsRunAfter, IsRunBetween}
 use Rattle.ucon_top.proofs.Answering.{AreLegal, failed_first}
 use Rattle.ucon_top.proofs.Serving.{closed_at_once}
 use Rattle.ucon_top.proofs.serve.serve_lines.Goals as goal
@@ -51,9 +53,15 @@ returns-in-Ok-serve-clause-run g c = λ P accepts.
     let closed = c.in-Ok-serve.store in
     let r = c.in-Ok-serve.ensures in
     let is : c.deref.result.now ≡ c.in-Ok-serve.parts.items = c.deref.ensures.value in
+    let after : (T : Trace) → IsStart P store.point store.before T → IsRunAfter own_answers true P T store closed (told_in c.deref.result.now) =
+    λ T starts. subst (λ (parts : List Part). IsRunAfter own_answers true P T store closed (told_in parts)) (sym is)
+    (let mark = r.fault P T accepts' starts in record {
+      answers = r.legal_after P T accepts' starts;
+      failed = mark.is ∙ ap marked (sym (failed_first (told_in c.in-Ok-serve.parts.items) mark.failed mark.lines_are));
+    }) in
     let run : (H : History) → IsFront P store H → IsRunBetween own_answers P (whole H store) (whole H closed) (told_in c.deref.result.now) =
     λ H front. subst (λ (parts : List Part). IsRunBetween own_answers P (whole H store) (whole H closed) (told_in parts)) (sym is)
-    (let mark = r.fault P H accepts' front in record {
+    (let mark = r.fault P (trace P H) accepts' front.starts in record {
       legal = r.legal P H accepts' front;
       made = r.made P H accepts' front;
       failed = mark.is ∙ ap marked (sym (failed_first (told_in c.in-Ok-serve.parts.items) mark.failed mark.lines_are));
@@ -63,7 +71,7 @@ returns-in-Ok-serve-clause-run g c = λ P accepts.
     subst (λ (z : Kept g.row.D.Denot × List Entry). IsClosedRun g.D.Disk.seen own_answers true P z.0 z.1
     c.end_served.result.outcome c.end_served.result.disk (g.K.Sink.seen c.args.out.now).contents (g.K.Sink.seen c.end_served.new.out).contents)
     (λ i. (lent i, lines i))
-    (c.end_served.ensures.run P store r.stays run)
+    (c.end_served.ensures.run P store r.stays after run)
 
 pub returns-clause-run : goal.returns-clause-run
 returns-clause-run g c = λ P accepts.

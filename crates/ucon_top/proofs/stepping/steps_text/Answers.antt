@@ -5,7 +5,7 @@ use Rattle.ucon_store.specs.Kept.{Kept}
 use Rattle.ucon_store.specs.Whole.{whole}
 use Rattle.ucon_trial.specs.OneAnswer.{entry_of}
 use Rattle.ucon_top.specs.Stepping.{AreAnswered, told_line}
-use Rattle.ucon_top.proofs.Answering.{AreLegal, run_of_steps, text_read, unanswered, untold}
+use Rattle.ucon_top.proofs.Answering.{AreLegal, run_after_steps, run_of_steps, text_read, unanswered, untold}
 use Rattle.ucon_top.proofs.stepping.steps_text.Goals as goal
 
 pub returns-clause-text : goal.returns-clause-text
@@ -18,7 +18,7 @@ returns-clause-text g c = λ P accepts.
     let old = c.args.store.now in
     let new = c.answer_lines.new.store in
     text_read in_text_order false P old new lines told c.in_ok-answered.ensures.lines
-    (λ T starts. (c.in_ok-answered.ensures.serial P T accepts starts).answers)
+    (λ T starts. run_after_steps P T old new told (c.in_ok-answered.ensures.serial P T accepts starts).answers)
     (λ G front. run_of_steps laws P (whole G old) (whole G new) lines told (c.in_ok-answered.ensures.steps P G accepts front))
     c.outputs_are_read_back.ensures _
     (rw c.slice.ensures at answers.text) (rw c.slice.ensures at answers.fits) (rw c.slice.ensures at answers.clients)
@@ -47,5 +47,5 @@ returns-in_err-text-clause-no_memory g c =
     let new = c.answer_lines.new.store in
     on_err c.from_residual-in_err-text.result _ (λ P accepts.
     untold in_text_order false P old new lines told c.in_ok-answered.ensures.lines
-    (λ T starts. (c.in_ok-answered.ensures.serial P T accepts starts).answers)
+    (λ T starts. run_after_steps P T old new told (c.in_ok-answered.ensures.serial P T accepts starts).answers)
     (λ G front. run_of_steps laws P (whole G old) (whole G new) lines told (c.in_ok-answered.ensures.steps P G accepts front)))

@@ -1,11 +1,9 @@
-use Rattle.std.proofs.Common.{◌≡◌, ◌++◌, map, sym, ap, subst, ◌∙◌}
-use Rattle.std.specs.Prelude.{Option, Some}
+use Rattle.std.proofs.Common.{◌≡◌, ◌++◌, map, sym, ap, subst}
 use Rattle.ucon_board.specs.Board.{Board, Written}
 use Rattle.ucon_store.specs.declared.event.Event.TheVariants.{Done}
 use Rattle.ucon_store.specs.Events.{events_of}
 use Rattle.ucon_store.specs.Kept.{Kept}
-use Rattle.ucon_store.specs.Whole.{IsFront}
-use Rattle.ucon_syntax.specs.Policies.{accepted}
+use Rattle.ucon_client.specs.Answers.{SaysFromStore}
 use Rattle.ucon_client.specs.Boarded.{IsShownBy, Sharing}
 use Rattle.ucon_client.specs.Looks.{IsConfirmed}
 use Rattle.ucon_client.specs.Events.{EndsAtMark}
@@ -13,15 +11,15 @@ use Rattle.ucon_client.proofs.Following.{confirmed, log_ends}
 use Rattle.ucon_client.proofs.boarded.Boarded.confirm.Goals as goal
 
 pub returns-in-Some-clause-confirmed : goal.returns-in-Some-clause-confirmed
-returns-in-Some-clause-confirmed g c = λ yes P G accepts front.
+returns-in-Some-clause-confirmed g c = λ yes says G from.
     let K = Kept g.row.D.Denot in
     let was : K = c.self.inside.store.value in
     let writer : Written = c.in-Some.writer in
     let here : was ≡ c.args.self.now.store = ap (λ (k : Sharing g.row.D.Denot). k.store) c.self.view_is in
     let shown = subst (IsShownBy was) c.in-Some.is c.self.invariant.1 in
-    subst (λ (z : K × Board). IsConfirmed P (map Done G ++ events_of z.0) z.1) (λ i. (here i, sym (c.confirm.ensures.confirmed yes) i))
-    (confirmed c.boards_show_entries.ensures.true_of P G was writer.board c.self.invariant.0 (ap (λ (k : K). accepted k.policy) here ∙ accepts)
-    (subst (λ (k : K). IsFront P k G) (sym here) front) shown)
+    subst (λ (z : K × Board). IsConfirmed says (map Done G ++ events_of z.0) z.1) (λ i. (here i, sym (c.confirm.ensures.confirmed yes) i))
+    (confirmed c.boards_show_entries.ensures.true_of c.replies_tell_states.ensures.look says G was writer.board c.self.invariant.0
+    (subst (λ (k : K). SaysFromStore k says G) (sym here) from) shown)
 
 pub returns-in-Some-clause-ends : goal.returns-in-Some-clause-ends
 returns-in-Some-clause-ends g c = λ G.

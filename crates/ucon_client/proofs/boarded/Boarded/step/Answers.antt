@@ -2,18 +2,15 @@ use Rattle.std.proofs.Common.{rules, ◌≡◌, ◌⊎◌, ⊎_elim, List, [], �
 use Rattle.std.specs.Prelude.{option_map}
 use Rattle.ucon_model.specs.declared.command.Entry.{Entry}
 use Rattle.ucon_model.specs.History.{History}
-use Rattle.ucon_model.specs.Plain.{PlainPolicy}
-use Rattle.ucon_board.specs.Board.{Known}
 use Rattle.ucon_syntax.specs.Policies.{accepted}
 use Rattle.ucon_store.specs.declared.event.Event.{Event}
 use Rattle.ucon_store.specs.declared.event.Event.TheVariants.{Done}
 use Rattle.ucon_store.specs.Events.{events, events_behind, events_of}
 use Rattle.ucon_store.specs.Kept.{Kept}
-use Rattle.ucon_store.specs.Whole.{IsFront}
 use Rattle.ucon_client.specs.declared.answer.Answer.{Answer}
-use Rattle.ucon_client.specs.Answers.{answer_of, answered_by, entry_of}
+use Rattle.ucon_client.specs.Answers.{SaysFromStore, answer_of, answered_by, entry_of}
 use Rattle.ucon_client.specs.Boarded.{IsOfSteps, IsShownBy, Sharing, identity}
-use Rattle.ucon_client.specs.Clients.{Stepped, Steps}
+use Rattle.ucon_client.specs.Clients.{Replies, Stepped, Steps}
 use Rattle.ucon_client.proofs.Counting.{answers_step}
 use Rattle.ucon_client.proofs.Following.{followed, same_board}
 use Rattle.ucon_client.proofs.Stepping.{stepped}
@@ -45,7 +42,7 @@ returns-clause-board g c =
     ∙ ap (λ (k : Sharing g.row.D.Denot). option_map identity k.board) c.self.view_is
 
 pub returns-clause-steps : goal.returns-clause-steps
-returns-clause-steps g c = λ (P : PlainPolicy) (G : History) accepts' front'.
+returns-clause-steps g c = λ (says : Replies) (G : History) from'.
     let s = c.step-said.ensures in
     let was : Kept g.row.D.Denot = c.deref_mut.result.now in
     let same : was ≡ c.self.inside.store.value = c.deref_mut.ensures.value in
@@ -55,10 +52,10 @@ returns-clause-steps g c = λ (P : PlainPolicy) (G : History) accepts' front'.
     let then = of_step was.mark now.mark line first s.mark in
     let gives : c.from.result ≡ answered_by c.step-said.result = search rules in
     let here : was ≡ c.args.self.now.store = same ∙ ap (λ (k : Sharing g.row.D.Denot). k.store) c.self.view_is in
-    let front : IsFront P was G = subst (λ (k : Kept g.row.D.Denot). IsFront P k G) (sym here) front' in
-    let accepts : accepted was.policy ≡ Some P = ap (λ (k : Kept g.row.D.Denot). accepted k.policy) here ∙ accepts' in
-    subst (λ (z : List Event × List Event). Steps P line z.0 z.1 (answer_of c.from.result))
+    let from : SaysFromStore was says G = subst (λ (k : Kept g.row.D.Denot). SaysFromStore k says G) (sym here) from' in
+    subst (λ (z : List Event × List Event). Steps says line z.0 z.1 (answer_of c.from.result))
     (λ i. ((ap (events (G ++ was.entries)) (sym first.is) ∙ (events_behind G was.entries was.mark ∙ ap (λ (k : Kept g.row.D.Denot). map Done G ++ events_of k) here)) i, (ap (events (G ++ now.entries)) (sym then.is) ∙ events_behind G now.entries now.mark) i))
-    (stepped P line (G ++ was.entries) first.failed (G ++ now.entries) then.failed (answer_of c.from.result)
-    (subst (λ (a : Answer). Stepped P line (G ++ was.entries) first.failed (G ++ now.entries) then.failed (answer_of a)) (sym gives)
-    (answers_step g.D.Disk.seen (accepted was.policy) P G accepts was now front first.failed then.failed first.is then.is line c.step-said.result s.stopped s.placed s.no_memory s.still s.failed)))
+    (stepped says line (G ++ was.entries) first.failed (G ++ now.entries) then.failed (answer_of c.from.result)
+    (subst (λ (a : Answer). Stepped says line (G ++ was.entries) first.failed (G ++ now.entries) then.failed (answer_of a)) (sym gives)
+    (answers_step g.D.Disk.seen (accepted was.policy) from.P from.accepts from.begun says G from.replies was now from.starts from.count s.stays.before
+    first.failed then.failed first.is then.is line c.step-said.result s.stopped s.placed_behind s.no_memory s.still s.failed_behind)))

@@ -47,5 +47,5 @@ returns-clause-serves g c =
     let own = line_at (λ l. l.caller.0 ≡ was.number) was.lines.items (length was.answers.items + length l.held.items) line more at c.requires.serves.0.part.own in
     let some = subst (HasStepped (base_of turn.opened) line l k d.0 c.call-said.new.seat.seen) c.in-Some-said.is d.3 in
     let t = c.take_in.ensures in
-    serves_next c.replies_tell_states.ensures.look turn was c.take_in.new.part c.args.self.now.seat c.call-said.new.seat l k c.take_in.result line
+    serves_next turn was c.take_in.new.part c.args.self.now.seat c.call-said.new.seat l k c.take_in.result line
     c.in-Some-said.answer d.0 c.requires.serves.0 holds called.turn called.kept.0 t.kept t.part t.answers more at own d.1 some.0 some.1 t.looks

@@ -50,5 +50,5 @@ returns-clause-answers g c =
       next = at;
       answers = c.add.ensures.answers;
       others = d.1;
-      step = λ P G is front. d.3 P G (record { accepts = is; starts = front.starts; count = front.count; text = front.text });
+      step = d.3;
     }

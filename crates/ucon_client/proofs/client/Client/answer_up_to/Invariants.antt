@@ -1,4 +1,4 @@
-use Rattle.std.proofs.Common.{◌≡◌, ◌+◌, ◌≤◌, None, length}
+use Rattle.std.proofs.Common.{◌≡◌, None, length}
 use Rattle.ucon_client.specs.Answers.{Keeps, ServesWith}
 use Rattle.ucon_client.proofs.client.Client.answer_up_to.Given as goal
 

@@ -1,4 +1,4 @@
-use Rattle.std.proofs.Common.{◌≡◌, sym, ◌∙◌, subst}
+use Rattle.std.proofs.Common.{sym, ◌∙◌, subst}
 use Rattle.std.specs.Prelude.{IfSome, Option}
 use Rattle.ucon_client.specs.declared.looks.Looks.{Looks}
 use Rattle.ucon_client.specs.declared.part.Part.{Part}
@@ -18,7 +18,7 @@ returns-then-confirmed-clause-serves g c =
     let holds : HoldsLooks turn was l =
     subst (λ (o : Option Looks). IfSome o (HoldsLooks turn was)) (sym c.take.ensures.value ∙ c.in-Some.is) c.requires.1 in
     let s = c.settle.ensures in
-    serves_settled c.replies_tell_states.ensures.look turn was c.settle.new.part c.args.self.now.seat c.call-confirmed.new.seat l k c.settle.result d.0
+    serves_settled turn was c.settle.new.part c.args.self.now.seat c.call-confirmed.new.seat l k c.settle.result d.0
     c.requires.0 holds called.turn called.kept.0 s.kept s.answers s.spare d.1 d.3.1
     (subst (HasConfirmed (base_of turn.opened) l k d.0) c.if-confirmed.true d.3.0) s.looks
 

@@ -1,5 +1,5 @@
 use Rattle.std.proofs.Common.{◌≡◌, [], sym, subst, ap}
-use Rattle.std.specs.Prelude.{IfSome, Option, Some}
+use Rattle.std.specs.Prelude.{IfSome, Option}
 use Rattle.ucon_board.specs.Board.{Known}
 use Rattle.ucon_client.specs.declared.looks.Looks.{Looks}
 use Rattle.ucon_client.specs.Answers.{HoldsLooks, IsReaderAt, held_by}
@@ -13,8 +13,8 @@ returns-clause-serves g c = (
     seated = c.requires.seat.0;
     number = c.requires.seat.1;
     part = c.requires.part.0;
-    right = λ P G is front.
-        starts_right P G c.args.part c.args.turn.now.opened.store c.args.seat.seen c.requires.unmarked c.requires.seen c.requires.part.1;
+    right = λ says G from.
+        starts_right says G c.args.part c.args.turn.now.opened.store c.args.seat.seen c.requires.unmarked c.requires.seen c.requires.part.1;
   },
   elim c.match-reader.branch [
     | in-Some w ↦ (

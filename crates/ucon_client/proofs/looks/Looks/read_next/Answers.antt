@@ -1,5 +1,4 @@
-use Rattle.std.proofs.Common.{rules, ◌≡◌, ◌+◌, Bool, true, false, length, get_or, refl, sym, ap, ◌∙◌}
-use Rattle.ucon_client.specs.declared.looks.Looks.{Looks}
+use Rattle.std.proofs.Common.{rules, ◌≡◌, Bool, true, false, refl}
 use Rattle.ucon_client.specs.Answers.{AreHeld}
 use Rattle.ucon_client.proofs.Held.{one_held, still_held}
 use Rattle.ucon_client.proofs.looks.Looks.read_next.Goals as goal
