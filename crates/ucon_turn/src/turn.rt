@@ -4,6 +4,7 @@ ghost use Rattle.ucon_base.specs.Elements.{Each};
 ghost use Rattle.ucon_turn.specs.Lists.{Has, Begins, Continues, ByOthers};
 ghost use Rattle.ucon_turn.specs.Turns.{IsSeatOf};
 
+use crate::bells::Bells;
 use crate::seat::{Seat, SeatToken};
 use crate::steps::{give, meet, note, part, take, wait_turn};
 use crate::table::{TurnTable, VALUE};
@@ -18,6 +19,7 @@ use ucon_base::NoMemory;
 /// One value, and whose turn it is.
 pub struct Turn<E: Turned> {
     table: TurnTable<E>,
+    bells: Bells,
 }
 
 impl<E: Turned> Model for Turn<E> {
@@ -49,7 +51,10 @@ impl<E: Turned> Turn<E> {
             return Err((value, refused));
         }
         match Table::new(alloc, &[0, 0, 0], slots, &about) {
-            Ok((table, place)) => Ok((Turn { table }, SeatToken { place, number: 0 })),
+            Ok((table, place)) => {
+                let bells = Bells::new();
+                Ok((Turn { table, bells }, SeatToken { place, number: 0 }))
+            }
             Err(Refused { mut slots }) => {
                 let value = slots.pop();
                 slots.destroy_empty();
@@ -100,12 +105,12 @@ impl<E: Turned> Turn<E> {
     {
         let table = &self.table.shared;
         let place = &mut seat.place;
-        wait_turn(rt, table, place);
+        wait_turn(rt, table, &self.bells, place);
         let mut value = take(table, place);
         let before = value.len();
         let answer = job.run(&mut value);
         let count = value.len() - before;
-        give(table, place, value, count);
+        give(table, &self.bells, place, value, count);
         answer
     }
 
@@ -136,7 +141,7 @@ impl<E: Turned> Turn<E> {
         ensures callers { Continues (λ e. Has (0 ∷ seat.taken) (E.caller e))
             (E.entries self.opened) (E.entries result) }
     {
-        let Turn { table } = self;
+        let Turn { table, bells: _ } = self;
         let mut closed = table.close_with(seat.into_place());
         let value = closed.take(VALUE);
         closed.free();
