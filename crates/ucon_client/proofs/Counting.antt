@@ -37,8 +37,8 @@ grown_so false false G H later e same is = ap (λ (l : History). G ++ l) is
 grown_so true false G H later e same is = absurd (cc same)
 grown_so false true G H later e same is = absurd (cc same)
 
--- a step's answer, from what the store says of it after a trace that leads to where it begins, if behind a history of as many entries the same is
--- said; its marks are those of steps
+-- A step's answer, from what the store says of it after a trace that leads to where it begins. Behind a history of as many entries the same has to
+-- be said. The store's marks are those of steps.
 module _ {D : Type 0} (seen : D → DiskSeen) (policy : Option PlainPolicy) (P : PlainPolicy) (is : policy ≡ Some P) (T : Trace) (says : Replies) (G : History)
     (agree : (K : History) (caller : Caller) (c : Command) → says (G ++ K) caller c ≡ reply P (trace_from P T K) caller c)
     (old new : Kept D) (starts : IsStart P old.point old.before T) (count : length G ≡ old.before) (before : new.before ≡ old.before)

@@ -115,8 +115,8 @@ pub(crate) fn join_all<E: Engine, D: Disk>(
 }
 
 /// Answers the lines of all parts through one store, each part in a thread of its own. Where a board shows the store, looks are read there as far as
-/// they can be. All memory but that of the steps and of the board is taken before the first line, and where there is none for it the store and the
-/// parts come back as they were. The answers of all together are a legal run behind the store's entries, with each history before them that leads
+/// they can be. All memory but that of the steps and of the board is taken before the first line. If there is none for it the store and the parts
+/// come back as they were. The answers of all together are a legal run behind the store's entries, with each history before them that leads
 /// to where the store begins. So they are after each trace that leads there, and the entries.
 pub fn serve<E: Engine + Send, D: Disk + Send, G: Gate + Sync, R: Threads + Wait + Sync>(
     rt: &R,

@@ -76,8 +76,8 @@ unfaulted : (sees : Caller → Caller → Bool) (threads : Bool) (P : PlainPolic
 unfaulted sees true P T n told legal none = none_faulted P sees T n told legal none
 unfaulted sees false P T n told serial none = serial_unfaulted P T n told serial none
 
--- How a run of lines over a store ended: no line met a fault and the output is whole, a front of it went out, a line met a disk fault, or there was
--- no memory.
+-- How a run of lines over a store ended. No line met a fault and the output is whole, or a front of it went out. Or a line met a disk fault, or there
+-- was no memory.
 abbrev pub RunEnds : Form → Bytes → (List ScriptLine → Type 0) → DiskSeen → DiskSeen → (was written : Option Bytes) → Outcome → Type 0
 RunEnds form bytes are old new was written outcomes.Done =
     IsRunOver form bytes are old new (λ told. (failed_line told ≡ None) × IsUnfaulted told) (HaveOutput (Appends was written)) × (new.faults ≡ old.faults)

@@ -103,7 +103,8 @@ fn put_point<E: Engine, D: Disk>(
 
 /// Tells how many entries stand before the checkpoint that is written, and how the run ends.
 fn tell_point<K: Sink>(out: &mut K, entries: u64) -> Outcome
-    ensures { IsWritten result (point_line entries) false (K.seen out.old).contents (K.seen out.new).contents (K.seen out.old).faults (K.seen out.new).faults }
+    ensures { IsWritten result (point_line entries) false (K.seen out.old).contents (K.seen out.new).contents
+        (K.seen out.old).faults (K.seen out.new).faults }
 {
     match put_point_line(out, entries) {
         Ok(()) => Outcome::Done,
