@@ -8,6 +8,7 @@ use Rattle.ucon_base.specs.declared.value.Kind.{Kind}
 use Rattle.ucon_base.specs.declared.value.Kind.TheVariants as kinds
 use Rattle.ucon_base.specs.declared.value.Value.{Value}
 use Rattle.ucon_base.specs.declared.value.Value.TheVariants.{Int, Text, Set}
+use Rattle.ucon_base.specs.Limits.{most_texts}
 use Rattle.ucon_base.specs.Numbers.{clamp, clamped}
 
 -- a text in its place in a rising list
@@ -15,9 +16,9 @@ abbrev pub in_place : List (List ℕ) → List ℕ → List (List ℕ)
 in_place [] t = t ∷ []
 in_place (u ∷ us) t = if is_lt (slice_cmp nat_cmp t u) then t ∷ u ∷ us else u ∷ in_place us t
 
--- the set with the text in its place, and the set itself if the text is there or the set has 64 members
+-- the set with the text in its place, and the set itself if the text is there or the set is full
 abbrev pub with_text : List (List ℕ) → List ℕ → List (List ℕ)
-with_text s t = if list_any (bytes_eq t) s then s else if nat_lt (length s) 64 then in_place s t else s
+with_text s t = if list_any (bytes_eq t) s then s else if nat_lt (length s) most_texts then in_place s t else s
 
 -- the set without the text
 abbrev pub without_text : List (List ℕ) → List ℕ → List (List ℕ)

@@ -4,6 +4,7 @@ use Rattle.std.specs.Prelude.{if◌then◌else◌}
 use Rattle.ucon_base.specs.declared.members.Found.{Found}
 use Rattle.ucon_base.specs.declared.value_fault.ValueFault.{ValueFault}
 use Rattle.ucon_base.specs.Elements.{Each}
+use Rattle.ucon_base.specs.Limits.{most_text_bytes, most_texts}
 use Rattle.ucon_base.specs.TextBytes.{is_text}
 use Rattle.ucon_base.specs.Reading.{Member, inside, behind, awaiting, before, members, first_long}
 
@@ -13,14 +14,14 @@ texts_seen found = map (λ t. t.now) (take found.count found.texts)
 
 -- the place of a text, if it is too long
 abbrev pub long_at : ℕ → List ℕ → Option ℕ
-long_at at t = if nat_lt 64 (length t) then Some at else None
+long_at at t = if nat_lt most_text_bytes (length t) then Some at else None
 
 -- how many members these are, which of them is the first too long, and their texts if there is room for all
 pub record Holds (found : Found) (ms : List Member) : Type 0 where
   pub count : found.count ≡ length ms
   pub long : found.long ≡ first_long ms
-  pub room : length found.texts ≡ 64
-  pub texts : length ms ≤ 64 → texts_seen found ≡ map (λ m. m.text) ms
+  pub room : length found.texts ≡ most_texts
+  pub texts : length ms ≤ most_texts → texts_seen found ≡ map (λ m. m.text) ms
 
 -- the members that are said
 abbrev pub IsFound : Result (List Member) ValueFault → Found → Type 0

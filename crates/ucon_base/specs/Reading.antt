@@ -10,6 +10,7 @@ use Rattle.ucon_base.specs.declared.value.Value.{Value}
 use Rattle.ucon_base.specs.declared.value.Value.TheVariants.{Int, Text, Set}
 use Rattle.ucon_base.specs.declared.value_fault.ValueFault.{ValueFault}
 use Rattle.ucon_base.specs.declared.value_fault.ValueFault.TheVariants.{BadSpelling, TooLong, TooMany, OutOfRange, NoMemory}
+use Rattle.ucon_base.specs.Limits.{most_text_bytes, most_texts}
 use Rattle.ucon_base.specs.TextBytes.{is_text_byte}
 
 -- ---- integers
@@ -77,7 +78,7 @@ bad_close at (b ∷ bs) = if b == 34 then (if length bs == 0 then None else Some
 abbrev pub text_read : List ℕ → Result Value ValueFault
 text_read bs =
     unless_bad (bad_close (text_len bs + 1) (drop (text_len bs) bs))
-    (if nat_lt 64 (text_len bs) then Err (TooLong 0) else Ok (Text (take (text_len bs) bs)))
+    (if nat_lt most_text_bytes (text_len bs) then Err (TooLong 0) else Ok (Text (take (text_len bs) bs)))
 
 -- ---- sets
 
@@ -139,15 +140,15 @@ members last behind at (b ∷ bs) =
     Err (BadSpelling at)
 members last awaiting at (b ∷ bs) = if b == 34 then members last (inside at []) (at + 1) bs else Err (BadSpelling at)
 
--- the place of the first text of more than 64 bytes
+-- the place of the first text that is too long
 abbrev pub first_long : List Member → Option ℕ
 first_long [] = None
-first_long (m ∷ ms) = if nat_lt 64 (length m.text) then Some m.at else first_long ms
+first_long (m ∷ ms) = if nat_lt most_text_bytes (length m.text) then Some m.at else first_long ms
 
 -- the set of members of which none, or the one at a place, is too long
 abbrev pub unless_long : Option ℕ → List Member → Result Value ValueFault
 unless_long (Some p) ms = Err (TooLong p)
-unless_long None ms = if nat_lt 64 (length ms) then Err (TooMany (length ms)) else Ok (Set (map (λ m. m.text) ms))
+unless_long None ms = if nat_lt most_texts (length ms) then Err (TooMany (length ms)) else Ok (Set (map (λ m. m.text) ms))
 
 -- the set of these members, if it keeps the limits
 abbrev pub set_of : Result (List Member) ValueFault → Result Value ValueFault

@@ -3,6 +3,7 @@ use Rattle.std.specs.Prelude.{ℕ, zero, suc, ◌+◌, ◌-◌, ◌*◌, ℤ, po
 use Rattle.std.specs.Prelude.{drop, Option, Some, None, option_map, if◌then◌else◌}
 use Rattle.std.specs.List.{prefix_len}
 use Rattle.ucon_base.specs.Bytes.{Bytes}
+use Rattle.ucon_base.specs.Limits.{most_name_bytes, most_text_bytes}
 use Rattle.ucon_base.specs.NameBytes.{is_letter, is_word_byte}
 use Rattle.ucon_base.specs.Reading.{is_digit, text_len}
 
@@ -47,13 +48,13 @@ word_len bs = prefix_len is_word_byte bs
 abbrev pub digits_len : Bytes → ℕ
 digits_len bs = prefix_len is_digit bs
 
--- a word has at most 32 bytes
+-- a word has at most as many bytes as a name
 unfoldable pub word_token : Bytes → Lexed
-word_token bs = if nat_lt 32 (word_len bs) then (flawed too_long, []) else (a_word (take (word_len bs) bs), drop (word_len bs) bs)
+word_token bs = if nat_lt most_name_bytes (word_len bs) then (flawed too_long, []) else (a_word (take (word_len bs) bs), drop (word_len bs) bs)
 
 -- a word directly behind a number
 unfoldable pub joined_token : Bytes → Lexed
-joined_token bs = if nat_lt 32 (word_len bs) then (flawed too_long, []) else (joined_word (take (word_len bs) bs), [])
+joined_token bs = if nat_lt most_name_bytes (word_len bs) then (flawed too_long, []) else (joined_word (take (word_len bs) bs), [])
 
 -- the number that digits spell behind one that is known, unless it is above 10^15
 unfoldable pub value_from : ℕ → Bytes → Option ℕ
@@ -82,9 +83,9 @@ abbrev pub closed_text : Bytes → Bytes → Lexed
 closed_text t [] = (flawed misplaced, [])
 closed_text t (b ∷ bs) = if b == 34 then (a_text t, bs) else (flawed unknown, [])
 
--- behind a quote: at most 64 bytes and the closing quote
+-- behind a quote: the bytes of a text and the closing quote
 unfoldable pub text_token : Bytes → Lexed
-text_token bs = if nat_lt 64 (text_len bs) then (flawed too_long, []) else closed_text (take (text_len bs) bs) (drop (text_len bs) bs)
+text_token bs = if nat_lt most_text_bytes (text_len bs) then (flawed too_long, []) else closed_text (take (text_len bs) bs) (drop (text_len bs) bs)
 
 -- the symbol of one byte that begins no longer one
 unfoldable pub single : ℕ → Option Symbol
@@ -165,7 +166,7 @@ tokens_of text = tokens_from false text
 
 -- ---- places
 
--- behind a quote whose text has at most 64 bytes: from the first byte that may not stand in it on, or from the quote
+-- behind a quote whose text is not too long: from the first byte that may not stand in it on, or from the quote
 abbrev pub unless_closed : Bytes → Bytes → Bytes
 unless_closed whole [] = []
 unless_closed whole (b ∷ bs) = if b == 34 then whole else b ∷ bs
@@ -173,7 +174,7 @@ unless_closed whole (b ∷ bs) = if b == 34 then whole else b ∷ bs
 -- from the fault in a token on, which is where the token begins but in a text that holds a wrong byte or isn't closed
 unfoldable pub fault_from : Bytes → Bytes
 fault_from [] = []
-fault_from (b ∷ bs) = if b == 34 && not (nat_lt 64 (text_len bs)) then unless_closed (b ∷ bs) (drop (text_len bs) bs) else b ∷ bs
+fault_from (b ∷ bs) = if b == 34 && not (nat_lt most_text_bytes (text_len bs)) then unless_closed (b ∷ bs) (drop (text_len bs) bs) else b ∷ bs
 
 -- how many bytes are left from each token on, or from the fault in it
 abbrev pub with_next_span : Lexed → ℕ → (Bool → Bytes → List ℕ) → List ℕ

@@ -3,16 +3,15 @@
 ghost use Rattle.std.specs.Prelude.{◌≡◌, ◌+◌, ◌≤◌, ◌<◌, ◌++◌, ◌∷◌, List, ℕ, [], map, length, None, option_copied, IfOk, IfSome, MatchResult, Option};
 ghost use Rattle.std.specs.Prelude.{Ok, Err, Some, false};
 ghost use Rattle.ucon_base.specs.declared.value.Value.TheVariants.{Set};
+ghost use Rattle.ucon_base.specs.Limits.{most_texts};
 ghost use Rattle.ucon_base.specs.Reading.{Member, rises, can_rise, opened, behind, awaiting, members, IsCause, set_read, spells_set};
 ghost use Rattle.ucon_base.specs.Members.{Holds, IsFound, texts_seen, long_at, after_quote, awaited, member_read, with_member, EachIsText};
 
+use crate::limits::{MOST_TEXT_BYTES, MOST_TEXTS};
 use crate::reading::text_len;
 use crate::text_set::of_rising;
 use crate::{NoMemory, Text, Value, ValueFault};
 use std::alloc::Global;
-
-/// The most texts of a set.
-const MOST_TEXTS: usize = 64;
 
 /// What was found of a set: its first texts, how many there are, and the place of the first one that is too long.
 #[derive(Clone, Copy)]
@@ -51,7 +50,11 @@ impl<'a> Found<'a> {
 fn long_at(at: usize, text: &[u8]) -> Option<usize>
     ensures { result ≡ long_at at text.now }
 {
-    if text.len() > 64 { Some(at) } else { None }
+    if text.len() > MOST_TEXT_BYTES {
+        Some(at)
+    } else {
+        None
+    }
 }
 
 /// The set whose bytes these are behind its opening bracket. Memory is taken only if they spell one.
@@ -67,7 +70,7 @@ pub fn read_set(alloc: Global, bytes: &[u8]) -> Result<Value, ValueFault>
 /// What is found of a set that keeps its limits.
 fn spelled<'a>(bytes: &'a [u8]) -> Result<Found<'a>, ValueFault>
     ensures read { MatchResult result (λ found. set_read bytes.now ≡ Ok (Set (texts_seen found))) (λ f. set_read bytes.now ≡ Err f) }
-    ensures few { IfOk result (λ found. found.count ≤ 64) }
+    ensures few { IfOk result (λ found. found.count ≤ most_texts) }
 {
     let found = members(bytes)?;
     match found.long {

@@ -11,6 +11,6 @@ of_rising-requires c =
     let t = c.args.t.now in
     let view : c.args.self.now ≡ c.self.inside.texts.items = sym c.self.view_is in
     let other : list_any (bytes_eq t) c.self.inside.texts.items ≡ false = ap (list_any (bytes_eq t)) (sym view) ∙ sym c.has.ensures ∙ c.if-has.false in
-    let room : length c.self.inside.texts.items < 64 = omega (arith, c.if-size-ge64.false, c.size.ensures, ap length view) in
+    let room : length c.self.inside.texts.items < 64 = omega (arith, c.if-size-ge-MOST_TEXTS.false, c.size.ensures, ap length view) in
     let items : c.in_ok-placed.field-0.items ≡ in_place c.self.inside.texts.items t = c.in_ok-placed.ensures ∙ ap (λ s. in_place s t) c.deref.ensures.value in
     ap is_set items ∙ is_set-in_place c.self.inside.texts.items t c.self.invariant room other
