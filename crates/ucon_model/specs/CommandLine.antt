@@ -12,6 +12,7 @@ use Rattle.ucon_base.specs.declared.value.Value.{Value}
 use Rattle.ucon_base.specs.NameBytes.{is_name}
 use Rattle.ucon_base.specs.Numbers.{InRange}
 use Rattle.ucon_base.specs.Reading.{value_read}
+use Rattle.ucon_model.specs.Limits.{most_amendment, most_line}
 pub use Rattle.ucon_base.specs.Reading.{integer_of, integer_in}
 use Rattle.ucon_base.specs.Spelling.{side_word, value_spelling, IsValue}
 use Rattle.ucon_model.specs.declared.command.Command.{Command}
@@ -214,9 +215,9 @@ abbrev pub words_read : (Bytes → Option PlainPolicy) → Bytes → List Word �
 words_read reads line [] = Err no_word
 words_read reads line (w ∷ words) = if length w.text == 0 then Err no_word else command_read reads line w.text (w ∷ words)
 
--- how many bytes a line may have: a policy's 65,536 and 6 before them where it begins with `amend `, and 8,192 otherwise
+-- how many bytes a line may have
 abbrev pub most_bytes : Bytes → ℕ
-most_bytes line = if starts_with nat_eq line (codes "amend ") then 65542 else 8192
+most_bytes line = if starts_with nat_eq line (codes "amend ") then most_amendment else most_line
 
 -- the command whose text a line is, or the first refusal
 unfoldable pub line_read : (Bytes → Option PlainPolicy) → Bytes → Result Command LineRefusal

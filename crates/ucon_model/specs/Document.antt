@@ -8,6 +8,7 @@ use Rattle.ucon_base.specs.Reading.{is_digit, number_of}
 use Rattle.ucon_model.specs.declared.command.Caller.{Caller}
 use Rattle.ucon_model.specs.declared.command.Command.{Command}
 use Rattle.ucon_model.specs.declared.command.Entry.{Entry}
+use Rattle.ucon_model.specs.Limits.{most_clients, most_command_lines}
 use Rattle.ucon_model.specs.Plain.{Bytes, PlainPolicy}
 use Rattle.ucon_model.specs.CommandLine.{LineRefusal, line_read}
 
@@ -79,7 +80,7 @@ pub record ScriptLine : Type 0 where
   pub caller : Caller
   pub command : Command
 
--- why a document is refused, with the number of the line: a client of 64 or above; a heading of any other wrong form, or a command line without a
+-- why a document is refused, with the number of the line: a client that there is not; a heading of any other wrong form, or a command line without a
 -- heading above it; one command line too many; a line that is no command
 pub data DocumentRefusal : Type 0 where
   too_many_clients : (number : ℕ) → DocumentRefusal
@@ -100,7 +101,7 @@ command_lines (l ∷ ls) = if is_skipped l || is_heading l then command_lines ls
 -- a heading, at this line, of this number if it is of its form
 abbrev pub heading_told : ℕ → Option ℕ → Result (Option ScriptLine) DocumentRefusal
 heading_told n None = Err (bad_heading n)
-heading_told n (Some client) = if nat_lt client 64 then Ok None else Err (too_many_clients n)
+heading_told n (Some client) = if nat_lt client most_clients then Ok None else Err (too_many_clients n)
 
 -- a client's command line, at this line
 abbrev pub command_told : ℕ → Caller → Result Command LineRefusal → Result (Option ScriptLine) DocumentRefusal
@@ -110,7 +111,7 @@ command_told n client (Err cause) = Err (bad_line n cause)
 -- a command line, at this line, of a client if there is a heading above, and so many command lines above
 abbrev pub said_told : (Bytes → Option PlainPolicy) → ℕ → Option Caller → ℕ → Bytes → Result (Option ScriptLine) DocumentRefusal
 said_told reads n None said l = Err (bad_heading n)
-said_told reads n (Some client) said l = if nat_lt said 262144 then command_told n client (line_read reads l) else Err (too_many_lines n)
+said_told reads n (Some client) said l = if nat_lt said most_command_lines then command_told n client (line_read reads l) else Err (too_many_lines n)
 
 -- What a script's line of this number says, below a heading of this client, if any, and so many command lines. It says a command line or nothing,
 -- or it is why the document is refused.

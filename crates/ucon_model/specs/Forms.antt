@@ -1,6 +1,7 @@
 -- Forms of a grammar: what may be written, its tokens, and what it stands for.
 use Rattle.std.specs.Prelude.{ℕ, zero, suc, ℤ, nat_lt, if◌then◌else◌, List, [], ◌∷◌, ◌++◌, Option, Some, None, ⊤}
 use Rattle.std.proofs.Common.{◌⊎◌, inl, inr}
+use Rattle.ucon_model.specs.Limits.{most_operands}
 use Rattle.ucon_model.specs.Plain.{Bytes}
 use Rattle.ucon_base.specs.Elements.{Each}
 use Rattle.ucon_base.specs.Tokens.{Token, a_word, a_number, a_text, a_symbol, Symbol}
@@ -96,7 +97,7 @@ either_of X Y = record {
 -- further operands, each behind an operator, with so many before them
 abbrev pub further_tokens : {O A : Type 0} → (O → Terminal) → (X : Form A) → ℕ → List (O × X.Written) → List Marked
 further_tokens token X n [] = []
-further_tokens token X n (o ∷ os) = (token o.0, beyond operand 32 n) ∷ (X.tokens o.1 ++ further_tokens token X (suc n) os)
+further_tokens token X n (o ∷ os) = (token o.0, beyond operand most_operands n) ∷ (X.tokens o.1 ++ further_tokens token X (suc n) os)
 
 -- grouped to the left
 abbrev pub further_tree : {O A : Type 0} → (O → A → A → A) → (X : Form A) → A → List (O × X.Written) → A
@@ -114,7 +115,7 @@ further {O} {A} token join X n all = record {
   IsProper = AreProper X;
 }
 
--- operands with operators between them, at most 32
+-- operands with operators between them
 abbrev pub chain : {O A : Type 0} → (O → Terminal) → (O → A → A → A) → Form A → Form A
 chain token join X = and_then X (λ x. further token join X 1 x)
 

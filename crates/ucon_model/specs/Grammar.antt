@@ -1,5 +1,6 @@
 -- The grammar of policies.
 use Rattle.std.specs.Prelude.{◌≡◌, ℕ, zero, suc, ◌+◌, ℤ, neg_ℤ, true, List, [], ◌∷◌, ◌++◌, take, Option, Some, None, codes, ⊤}
+use Rattle.ucon_base.specs.Limits.{most_texts}
 use Rattle.ucon_base.specs.NameBytes.{is_name}
 use Rattle.ucon_base.specs.Value.{is_rising}
 use Rattle.ucon_base.specs.declared.value.Side.{Side}
@@ -21,6 +22,7 @@ use Rattle.ucon_model.specs.declared.policy.Phase.{Phase}
 use Rattle.ucon_model.specs.declared.policy.Phase.TheVariants as phases
 use Rattle.ucon_model.specs.declared.policy.When.{When}
 use Rattle.ucon_model.specs.declared.policy.When.TheVariants as whens
+use Rattle.ucon_model.specs.Limits.{most_levels, most_of_a_sort, most_rights, most_variables}
 use Rattle.ucon_model.specs.Plain.{Bytes, PlainExpr, lit, read, plus, minus, times, size, PlainFormula, both, either, negation, compare, lasts}
 use Rattle.ucon_model.specs.Plain.{PlainTest, authorisation, duty, condition, PlainPredicate, PlainUpdate, PlainRight, PlainPolicy}
 use Rattle.ucon_base.specs.Tokens.{Symbol, colon, semicolon, comma, dot, dots, equal_sign, unequal_sign, less_sign, at_most_sign, greater_sign}
@@ -58,15 +60,15 @@ an_int = either_of (before (sign minus_sign) (mapped neg_ℤ a_number)) a_number
 -- the texts of a set behind so many
 abbrev pub more_texts : ℕ → List Bytes → List Marked
 more_texts n [] = []
-more_texts n (t ∷ ts) = sign comma ∷ (text t, beyond item 64 n) ∷ more_texts (suc n) ts
+more_texts n (t ∷ ts) = sign comma ∷ (text t, beyond item most_texts n) ∷ more_texts (suc n) ts
 
--- TEXT { "," TEXT } "}", each of the first 64 texts above the one before it
+-- TEXT { "," TEXT } "}", each text that a set has room for above the one before it
 abbrev pub some_texts : Form (List Bytes)
 some_texts = record {
   Written = Bytes × List Bytes;
   tokens = λ s. clear (text s.0) ∷ (more_texts 1 s.1 ++ sign close_curly ∷ []);
   tree = λ s. s.0 ∷ s.1;
-  IsProper = λ s. is_rising (take 64 (s.0 ∷ s.1)) ≡ true;
+  IsProper = λ s. is_rising (take most_texts (s.0 ∷ s.1)) ≡ true;
 }
 
 -- set = "{" [ TEXT { "," TEXT } ] "}"
@@ -126,7 +128,7 @@ expr_of_depth zero room = expr_with (factor_with room no_form)
 expr_of_depth (suc depth) room = expr_with (factor_with room (expr_of_depth depth (one_less room)))
 
 abbrev pub an_expr : Form PlainExpr
-an_expr = at_any_depth (λ depth. expr_of_depth depth 32)
+an_expr = at_any_depth (λ depth. expr_of_depth depth most_levels)
 
 -- ---- formulas
 
@@ -170,7 +172,7 @@ unit_of_depth zero room = unit_with room no_form (comparison_of (expr_of_depth z
 unit_of_depth (suc depth) room = unit_with room (unit_of_depth depth (one_less room)) (comparison_of (expr_of_depth (suc depth) room))
 
 abbrev pub a_formula : Form PlainFormula
-a_formula = at_any_depth (λ depth. formula_with (unit_of_depth depth 32))
+a_formula = at_any_depth (λ depth. formula_with (unit_of_depth depth most_levels))
 
 -- ---- attributes and variables
 
@@ -201,20 +203,20 @@ abbrev pub count_side : SideCount → Side → SideCount
 count_side n sides.Subject = record { subject = n.subject + 1; object = n.object }
 count_side n sides.Object = record { subject = n.subject; object = n.object + 1 }
 
--- attr = "attr" side NAME ":" kind "=" literal ";", the 17th of its side marked at its side word
+-- attr = "attr" side NAME ":" kind "=" literal ";", the first too many of its side marked at its side word
 abbrev pub an_attr : SideCount → Form AttrDecl
 an_attr n =
-    before (keyword (codes "attr")) (and_then (one_of side_token (λ side. beyond item 16 (of_side n side)) (λ side. ⊤)) (λ side.
+    before (keyword (codes "attr")) (and_then (one_of side_token (λ side. beyond item most_of_a_sort (of_side n side)) (λ side. ⊤)) (λ side.
     and_then a_name (λ name. before (sign colon) (and_then a_kind (λ kind. before (sign equal_sign) (and_then a_literal (λ start.
     before (sign semicolon) (nothing (record { side = side; name = name; kind = kind; start = start })))))))))
 
 abbrev pub attrs : Form (List AttrDecl)
 attrs = listed an_attr (λ n a. count_side n a.side) (record { subject = 0; object = 0 })
 
--- env = "env" NAME ":" kind "=" literal ";", the 33rd marked at its first word
+-- env = "env" NAME ":" kind "=" literal ";", the first too many marked at its first word
 abbrev pub an_env : ℕ → Form EnvDecl
 an_env n =
-    before (word (codes "env"), beyond item 32 n)
+    before (word (codes "env"), beyond item most_variables n)
     (and_then a_name (λ name. before (sign colon) (and_then a_kind (λ kind. before (sign equal_sign) (and_then a_literal (λ start.
     before (sign semicolon) (nothing (record { name = name; kind = kind; start = start }))))))))
 
@@ -263,10 +265,10 @@ labelled phase a_test =
     and_then a_name (λ label. before (sign colon) (and_then a_test (λ test.
     before (sign semicolon) (nothing (record { phase = phase; label = label; test = test })))))
 
--- pred = ("pre" | "on") ( ("a" | "c") NAME ":" formula | "b" NAME ":" duty ) ";", the 17th of its phase marked at its first word
+-- pred = ("pre" | "on") ( ("a" | "c") NAME ":" formula | "b" NAME ":" duty ) ";", the first too many of its phase marked at its first word
 abbrev pub a_pred : PhaseCount → Form PlainPredicate
 a_pred n =
-    and_then (one_of phase_token (λ phase. beyond item 16 (of_phase n phase)) (λ phase. ⊤)) (λ phase.
+    and_then (one_of phase_token (λ phase. beyond item most_of_a_sort (of_phase n phase)) (λ phase. ⊤)) (λ phase.
     either_of (before (keyword (codes "a")) (labelled phase (mapped (λ f. authorisation f) a_formula)))
     (either_of (before (keyword (codes "b")) (labelled phase (mapped (λ o. duty o) a_duty)))
     (before (keyword (codes "c")) (labelled phase (mapped (λ f. condition f) a_formula)))))
@@ -301,11 +303,11 @@ count_when n whens.During = record n { during_usage = n.during_usage + 1 }
 count_when n whens.AfterEnd = record n { after_end = n.after_end + 1 }
 count_when n whens.AfterRevoke = record n { after_revoke = n.after_revoke + 1 }
 
--- update = ("before" | "during" | "after_end" | "after_revoke") side "." NAME "=" expr ";", the 17th of its time marked at its
+-- update = ("before" | "during" | "after_end" | "after_revoke") side "." NAME "=" expr ";", the first too many of its time marked at its
 -- first word
 abbrev pub an_update : WhenCount → Form PlainUpdate
 an_update n =
-    and_then (one_of when_token (λ when. beyond item 16 (of_when n when)) (λ when. ⊤)) (λ when.
+    and_then (one_of when_token (λ when. beyond item most_of_a_sort (of_when n when)) (λ when. ⊤)) (λ when.
     and_then a_side (λ side. before (sign dot) (and_then a_name (λ attr. before (sign equal_sign) (and_then an_expr (λ value.
     before (sign semicolon) (nothing (record { when = when; side = side; attr = attr; value = value }))))))))
 
@@ -314,10 +316,10 @@ updates = listed an_update (λ n u. count_when n u.when) (record { before_usage 
 
 -- ---- rights and policies
 
--- right = "right" NAME "{" { pred } { update } "}", the 65th marked at its first word
+-- right = "right" NAME "{" { pred } { update } "}", the first too many marked at its first word
 abbrev pub a_right : ℕ → Form PlainRight
 a_right n =
-    before (word (codes "right"), beyond item 64 n)
+    before (word (codes "right"), beyond item most_rights n)
     (and_then a_name (λ name. before (sign open_curly) (and_then preds (λ preds. and_then updates (λ updates.
     before (sign close_curly) (nothing (record { name = name; preds = preds; updates = updates })))))))
 

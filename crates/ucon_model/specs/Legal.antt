@@ -5,6 +5,7 @@ use Rattle.ucon_base.specs.declared.value.Side.TheVariants as sides
 use Rattle.ucon_base.specs.Admits.{admits}
 use Rattle.ucon_model.specs.declared.session.SessionState.TheVariants.{Requesting, Accessing}
 use Rattle.ucon_model.specs.declared.session.Verdict.TheVariants.{Wait, Deny}
+use Rattle.ucon_model.specs.Limits.{most_accessing, most_acts, most_entities, most_sessions}
 use Rattle.ucon_model.specs.Plain.{Bytes, PlainPolicy}
 use Rattle.ucon_model.specs.Action.{Action, Trace, subject, object, write, env, tick, act, tries, wait, permit, deny, ends, revoke, amend, extended}
 use Rattle.ucon_model.specs.Readings.{in_force, tick_of, has_entity, entities, declared_attr, declared_env, moment, session, sessions, accessing}
@@ -27,21 +28,21 @@ IsAccessing T n = IsSomeAnd (session T n) (λ row. row.state ≡ Accessing)
 
 -- the action may follow the trace
 abbrev pub IsLegal : PlainPolicy → Trace → Action → Type 0
-IsLegal P T (subject name) = IsFalse (has_entity sides.Subject name T) × (entities sides.Subject T < 16384)
-IsLegal P T (object name) = IsFalse (has_entity sides.Object name T) × (entities sides.Object T < 16384)
+IsLegal P T (subject name) = IsFalse (has_entity sides.Subject name T) × (entities sides.Subject T < most_entities)
+IsLegal P T (object name) = IsFalse (has_entity sides.Object name T) × (entities sides.Object T < most_entities)
 IsLegal P T (write side name attr v) =
     IsTrue (has_entity side name T) × IsSomeAnd (declared_attr (in_force P T).attrs side attr) (λ d. IsTrue (admits d.kind v))
 IsLegal P T (env name v) = IsSomeAnd (declared_env (in_force P T).envs name) (λ d. IsTrue (admits d.kind v))
 IsLegal P T (tick t) = tick_of T ≤ℤ t
 IsLegal P T (act s a o) =
     IsTrue (has_entity sides.Subject s T) × IsTrue (has_entity sides.Object o T) × IsTrue (names_act (in_force P T).rights a)
-    × (IsSome (moment s a o T) ⊎ (acts T < 1048576))
+    × (IsSome (moment s a o T) ⊎ (acts T < most_acts))
 IsLegal P T (tries n caller s r o) =
-    (n ≡ sessions T + 1) × (n ≤ 1048576) × IsSome (right_named (in_force P T).rights r)
+    (n ≡ sessions T + 1) × (n ≤ most_sessions) × IsSome (right_named (in_force P T).rights r)
     × IsTrue (has_entity sides.Subject s T) × IsTrue (has_entity sides.Object o T)
 IsLegal P T (wait n label) = IsRequesting T n × (verdict (in_force P T) (readings P T) n ≡ Wait label)
 IsLegal P T (deny n label) = IsRequesting T n × (verdict (in_force P T) (readings P T) n ≡ Deny label)
-IsLegal P T (permit n) = IsRequesting T n × (accessing T < 65536)
+IsLegal P T (permit n) = IsRequesting T n × (accessing T < most_accessing)
 IsLegal P T (ends n) = IsAccessing T n
 IsLegal P T (revoke n label) = IsAccessing T n × (failing (in_force P T) (readings P T) n ≡ Some label) × ((m : ℕ) → m < n → fails_at P T m ≡ None)
 IsLegal P T (amend text Q) = Spells text Q × IsTyped Q × MayFollow (in_force P T) Q

@@ -23,6 +23,7 @@ use Rattle.ucon_model.specs.declared.session.SessionState.{SessionState}
 use Rattle.ucon_model.specs.declared.session.SessionState.TheVariants.{Requesting}
 use Rattle.ucon_model.specs.declared.session.Verdict.{Verdict}
 use Rattle.ucon_model.specs.declared.session.Verdict.TheVariants.{Permit, Deny, Wait}
+use Rattle.ucon_model.specs.Limits.{most_accessing, most_acts, most_entities, most_sessions}
 use Rattle.ucon_model.specs.Plain.{Bytes, PlainTest, duty, PlainRight, PlainPolicy, PlainReply, value_is, status}
 use Rattle.ucon_model.specs.Action.{Action, Trace, subject, object, write, env, tick, act, tries, wait, permit, deny, ends, amend}
 use Rattle.ucon_model.specs.Readings.{in_force, tick_of, has_entity, entities, attribute, declared_attr, declared_env, moment, session, sessions}
@@ -77,12 +78,12 @@ abbrev pub new_entity : Side → Bytes → Action
 new_entity sides.Subject name = subject name
 new_entity sides.Object name = object name
 
--- at most 16,384 entities a side
+-- there are not too many entities of a side
 abbrev pub add_entity : Trace → Caller → Side → Bytes → Own
 add_entity T caller side name =
     if not (is_admin caller) then refuse NotAdmin else
     if has_entity side name T then refuse AlreadyThere else
-    if nat_le 16384 (entities side T) then refuse (full_entities side) else
+    if nat_le most_entities (entities side T) then refuse (full_entities side) else
     make heads.Ok (new_entity side name ∷ [])
 
 -- client 0 writes a value to an attribute whose kind admits it
@@ -124,25 +125,25 @@ is_duty_of a t = false
 abbrev pub names_act : List PlainRight → Bytes → Bool
 names_act rights a = list_any (λ r. list_any (λ p. is_duty_of a p.test) r.preds) rights
 
--- at most 1,048,576 distinct acts
+-- there are not too many distinct acts
 abbrev pub do_act : PlainPolicy → Trace → Bytes → Bytes → Bytes → Own
 do_act P T s a o =
     if not (has_entity sides.Subject s T) then refuse NoSubject else
     if not (has_entity sides.Object o T) then refuse NoObject else
     if not (names_act (in_force P T).rights a) then refuse NoAct else
-    if is_none (moment s a o T) && nat_le 1048576 (acts T) then refuse FullActs else
+    if is_none (moment s a o T) && nat_le most_acts (acts T) then refuse FullActs else
     make heads.Ok (act s a o ∷ [])
 
 -- ---- sessions
 
--- at most 1,048,576 sessions, 65,536 of them accessing
+-- there are not too many sessions, and not too many of them are accessing
 abbrev pub try_right : PlainPolicy → Trace → Caller → Bytes → Bytes → Bytes → Own
 try_right P T caller s r o =
     if is_none (right_named (in_force P T).rights r) then refuse NoRight else
     if not (has_entity sides.Subject s T) then refuse NoSubject else
     if not (has_entity sides.Object o T) then refuse NoObject else
-    if nat_le 1048576 (sessions T) then refuse FullSessions else
-    if nat_le 65536 (accessing T) then refuse FullAccessing else
+    if nat_le most_sessions (sessions T) then refuse FullSessions else
+    if nat_le most_accessing (accessing T) then refuse FullAccessing else
     after_action (tries (sessions T + 1) caller s r o) (decide P (tries (sessions T + 1) caller s r o ∷ T) (sessions T + 1))
 
 -- what is done with a session, if it is there and the caller's own
@@ -165,7 +166,7 @@ try_again P T caller n =
     if lacks_right P T n then refuse NoRight else
     with_own T caller n (λ row.
     if not (is_requesting row.state) then refuse NotRequesting else
-    if nat_le 65536 (accessing T) then refuse FullAccessing else
+    if nat_le most_accessing (accessing T) then refuse FullAccessing else
     decide P T n)
 
 -- what is done with an accessing session of the caller's own

@@ -8,6 +8,7 @@ use Rattle.ucon_model.specs.declared.command.Command.{Command}
 use Rattle.ucon_model.specs.declared.command.Entry.{Entry}
 use Rattle.ucon_model.specs.CommandLine.{command_spelling, line_read}
 use Rattle.ucon_model.specs.Document.{caller_of}
+use Rattle.ucon_model.specs.Limits.{most_clients}
 use Rattle.ucon_model.specs.Output.{cut_at, number_read}
 use Rattle.ucon_model.specs.declared.reply.Revoked.{Revoked}
 use Rattle.ucon_model.specs.Plain.{Bytes, PlainPolicy, PlainReply, made}
@@ -51,9 +52,9 @@ abbrev pub ◌>>=◌ : {A B : Type 0} → Result A ℕ → (A → Result B ℕ) 
 Ok a >>= f = f a
 Err place >>= f = Err place
 
--- one of the 64 clients
+-- one of the clients
 abbrev pub client_numbered : ℕ → Option Caller
-client_numbered n = if nat_lt n 64 then Some (caller_of n) else None
+client_numbered n = if nat_lt n most_clients then Some (caller_of n) else None
 
 -- the client, 0 to 63, whose number in decimal these bytes are
 abbrev pub caller_read : Bytes → Option Caller

@@ -1,6 +1,7 @@
 -- Which policy a text spells, and which fault of it is the first.
 use Rattle.std.specs.Prelude.{◌≡◌, ◌<◌, ◌≤◌, ℕ, List, [], ◌∷◌, ◌++◌, length, Option, Some, None}
 use Rattle.std.proofs.Common.{◌⊎◌}
+use Rattle.ucon_model.specs.Limits.{most_policy}
 use Rattle.ucon_model.specs.Plain.{Bytes, PlainPolicy}
 use Rattle.ucon_base.specs.Tokens.{Token, joined_word, flawed, Flaw, unknown, too_long, misplaced, tokens_of, place_of}
 use Rattle.ucon_model.specs.Forms.{Terminal, word, as_token, Limit, operand, item, level, Marked, bare, IsClean}
@@ -14,9 +15,9 @@ pub record Spelled (ts : List Token) (p : PlainPolicy) : Type 0 where
   pub proper : a_policy.IsProper written
   pub clean : IsClean (a_policy.tokens written)
 
--- a text of at most 65,536 bytes spells the policy
+-- a text that is not too long spells the policy
 pub record Spells (text : Bytes) (p : PlainPolicy) : Type 0 where
-  pub short : length text ≤ 65536
+  pub short : length text ≤ most_policy
   pub spelled : Spelled (tokens_of text) p
 
 -- some list continues the tokens to a policy, limits aside
@@ -95,19 +96,19 @@ pub record FirstFault (fault : TextFault) (ts rest : List Token) : Type 0 where
   pub alive : IsAliveWithin used
   pub stops : Stops fault used rest
 
--- the first fault of a text of at most 65,536 bytes, at its place
+-- the first fault of a text that is not too long, at its place
 pub record FaultWithin (text : Bytes) (fault : TextFault) (place : ℕ) : Type 0 where
   pub rest : List Token
-  pub short : length text ≤ 65536
+  pub short : length text ≤ most_policy
   pub first : FirstFault fault (tokens_of text) rest
   pub placed : place ≡ place_of text (length rest)
 
 -- the text is too long as a whole
 pub record IsOverlong (text : Bytes) (fault : TextFault) (place : ℕ) : Type 0 where
-  pub long : 65536 < length text
+  pub long : most_policy < length text
   pub cause : fault ≡ overlong
-  pub placed : place ≡ 65536
+  pub placed : place ≡ most_policy
 
--- the first fault of a text, at its place; more than 65,536 bytes come before all else
+-- the first fault of a text, at its place; too many bytes come before all else
 abbrev pub IsTextFault : Bytes → TextFault → ℕ → Type 0
 IsTextFault text fault place = IsOverlong text fault place ⊎ FaultWithin text fault place

@@ -20,6 +20,7 @@ use Rattle.ucon_model.specs.declared.formula.Form.{Form}
 use Rattle.ucon_model.specs.declared.formula.Form.TheVariants.{Every}
 use Rattle.ucon_model.specs.declared.policy.AttrDecl.{AttrDecl}
 use Rattle.ucon_model.specs.declared.policy.EnvDecl.{EnvDecl}
+use Rattle.ucon_model.specs.Limits.{most_places}
 use Rattle.ucon_model.specs.Plain.{Bytes, PlainExpr, lit, read, plus, minus, times, size, PlainFormula, both, either, negation, compare, lasts}
 use Rattle.ucon_model.specs.Plain.{PlainTest, authorisation, duty, condition, PlainPredicate, PlainUpdate, PlainRight, PlainPolicy}
 use Rattle.ucon_model.specs.Readings.{declared_attr, declared_env}
@@ -235,11 +236,11 @@ one_item x = 1
 abbrev pub items_of : PlainRight → ℕ
 items_of r = 1 + length r.preds + length r.updates
 
--- a right as a whole: it has updates that no core model has; or its ongoing predicates read more than 32 places
+-- a right as a whole: it has updates that no core model has; or its ongoing predicates read too many places
 abbrev pub whole_fault : PlainRight → Option TypeFault
 whole_fault r =
     if not (is_core r) then Some (not_core r.name) else
-    if nat_lt 32 (length (places_read r)) then Some (too_many_cells r.name (length (places_read r))) else None
+    if nat_lt most_places (length (places_read r)) then Some (too_many_cells r.name (length (places_read r))) else None
 
 -- a right, behind those before it, whose heading is item n
 abbrev pub right_fault : PlainPolicy → List PlainRight → ℕ → PlainRight → Option TypeFault

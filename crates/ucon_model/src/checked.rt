@@ -9,7 +9,7 @@ use crate::Policy;
 use std::alloc::Global;
 use ucon_base::NoMemory;
 
-/// A policy that is well typed, with at most 16 attributes of each side.
+/// A policy that is well typed, with at most `MOST_OF_A_SORT` attributes of each side.
 #[derive(Drop)]
 pub struct Checked {
     policy: Policy,
@@ -20,7 +20,7 @@ pub struct Checked {
 impl Checked {
     ghost use Rattle.ucon_model.specs.Checked.{checked_policy};
 
-    /// Marks a policy as checked. It must be well typed and have at most 16 attributes of each side.
+    /// Marks a policy as checked. It must be well typed and have at most `MOST_OF_A_SORT` attributes of each side.
     pub fn new(policy: Policy) -> Checked
         requires typed { IsTyped (policy_of policy) }
         requires few { HasFewAttrs (policy_of policy) }
@@ -29,7 +29,7 @@ impl Checked {
         Checked { policy }
     }
 
-    /// Lends the policy, which is well typed and has at most 16 attributes of each side.
+    /// Lends the policy, which is well typed and has at most `MOST_OF_A_SORT` attributes of each side.
     pub fn policy(&self) -> &Policy
         ensures policy { policy_of result.now ≡ checked_policy self.now }
         ensures typed { IsTyped (checked_policy self.now) }

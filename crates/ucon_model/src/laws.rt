@@ -8,6 +8,7 @@ ghost use Rattle.ucon_model.specs.declared.command.Command.{Command};
 ghost use Rattle.ucon_model.specs.declared.command.Entry.{Entry};
 ghost use Rattle.ucon_model.specs.declared.reply.Head.{Head};
 ghost use Rattle.ucon_model.specs.declared.session.SessionRow.{SessionRow};
+ghost use Rattle.ucon_model.specs.Limits.{most_accessing};
 ghost use Rattle.ucon_model.specs.Plain.{Bytes, PlainPolicy, PlainRight};
 ghost use Rattle.ucon_model.specs.Action.{Action, Trace, extended, revoke};
 ghost use Rattle.ucon_model.specs.Block.{after, block, reply};
@@ -46,23 +47,24 @@ pub fn grown_histories_go_on()
     ensures { (P : PlainPolicy) (H : History) (e : Entry) → trace P (grown P H e) ≡ after P (trace P H) e.caller e.command }
 {}
 
-/// After every history at most 65,536 sessions are accessing.
+/// After every history at most `MOST_ACCESSING` sessions are accessing.
 pub fn usages_are_few()
-    ensures { (P : PlainPolicy) (H : History) → accessing (trace P H) ≤ 65536 }
+    ensures { (P : PlainPolicy) (H : History) → accessing (trace P H) ≤ most_accessing }
 {}
 
-/// After every history a reply has at most 65,536 revocations. As many sessions can be accessing after a command's own actions, the one
-/// just permitted among them, and each is revoked at most once.
+/// After every history a reply has at most `MOST_ACCESSING` revocations. As many sessions can be accessing after a command's own actions, the
+/// one just permitted among them, and each is revoked at most once.
 pub fn revocations_are_few()
-    ensures { (P : PlainPolicy) (H : History) (caller : Caller) (c : Command) → length (revocations_in (said P H caller c)) ≤ 65536 }
+    ensures { (P : PlainPolicy) (H : History) (caller : Caller) (c : Command) → length (revocations_in (said P H caller c)) ≤ most_accessing }
 {}
 
-/// Behind a sound trace after which at most 65,536 sessions are accessing, as few are after every history, and a reply has at most 65,536
-/// revocations. So if a state is taken up, nothing need be known of how it came about.
+/// Behind a sound trace after which at most `MOST_ACCESSING` sessions are accessing, as few are after every history, and a reply has no more
+/// revocations than that. So if a state is taken up, nothing need be known of how it came about.
 pub fn usages_stay_few()
-    ensures usages { (P : PlainPolicy) (T : Trace) → IsSound P T → accessing T ≤ 65536 → (H : History) → accessing (trace_from P T H) ≤ 65536 }
-    ensures revocations { (P : PlainPolicy) (T : Trace) → IsSound P T → accessing T ≤ 65536 → (H : History) (caller : Caller) (c : Command)
-        → length (revocations_in (reply P (trace_from P T H) caller c)) ≤ 65536 }
+    ensures usages { (P : PlainPolicy) (T : Trace) → IsSound P T → accessing T ≤ most_accessing → (H : History)
+        → accessing (trace_from P T H) ≤ most_accessing }
+    ensures revocations { (P : PlainPolicy) (T : Trace) → IsSound P T → accessing T ≤ most_accessing → (H : History) (caller : Caller) (c : Command)
+        → length (revocations_in (reply P (trace_from P T H) caller c)) ≤ most_accessing }
 {}
 
 /// Under a well typed policy that a text spells, after every history of commands, a reply that changes something can be spelled: it is of

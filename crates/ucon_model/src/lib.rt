@@ -11,7 +11,8 @@
 //! **Free.** How the types lie in memory.
 //!
 //! **Before a change.** A test takes no memory because it makes no set (`typed_tests_make_no_set`). A definition here says what all crates promise,
-//! so changing one changes all. The checker computes worked examples from the definitions. Begin at `specs/Action.antt`, then in the order of
+//! so changing one changes all. A limit stands once in `limits.rt` and once in `specs/Limits.antt`; those of names, texts and sets stand so in
+//! `ucon_base`. The checker computes worked examples from the definitions. Begin at `specs/Action.antt`, then in the order of
 //! `docs/definitions.md`.
 #![tactic(auto)]
 
@@ -25,6 +26,7 @@ mod core_model;
 mod finding;
 mod formula;
 mod laws;
+pub mod limits;
 mod policy;
 mod reply;
 mod run_laws;

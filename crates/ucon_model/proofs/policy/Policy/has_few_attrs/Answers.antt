@@ -16,17 +16,18 @@ both : (P : PlainPolicy) → counted P sides.Subject ≤ 16 → counted P sides.
 both P subjects objects sides.Subject = subjects
 both P subjects objects sides.Object = objects
 
-pub returns-then-subjects-le16 : goal.returns-then-subjects-le16
-returns-then-subjects-le16 c =
+pub returns-then-subjects-le-MOST_OF_A_SORT : goal.returns-then-subjects-le-MOST_OF_A_SORT
+returns-then-subjects-le-MOST_OF_A_SORT c =
     let P = policy_of c.args.self.now in
-    let subjects = subst (λ n. n ≤ 16) c.attr_count-subjects.ensures c.if-subjects-le16.true in (
+    let subjects = subst (λ n. n ≤ 16) c.attr_count-subjects.ensures c.if-subjects-le-MOST_OF_A_SORT.true in (
       (λ h. both P subjects (subst (λ n. n ≤ 16) c.attr_count-objects.ensures (leb-true _ _ h))),
       (λ few. le-leb _ _ (subst (λ n. n ≤ 16) (sym c.attr_count-objects.ensures) (few sides.Object))),
     )
 
-pub returns-else-subjects-le16 : goal.returns-else-subjects-le16
-returns-else-subjects-le16 c =
-    let more : 16 < counted (policy_of c.args.self.now) sides.Subject = subst (λ n. 16 < n) c.attr_count-subjects.ensures c.if-subjects-le16.false in (
-      (λ h. absurd (omega (arith, c.if-subjects-le16.false, leb-true _ _ h))),
+pub returns-else-subjects-le-MOST_OF_A_SORT : goal.returns-else-subjects-le-MOST_OF_A_SORT
+returns-else-subjects-le-MOST_OF_A_SORT c =
+    let more : 16 < counted (policy_of c.args.self.now) sides.Subject =
+    subst (λ n. 16 < n) c.attr_count-subjects.ensures c.if-subjects-le-MOST_OF_A_SORT.false in (
+      (λ h. absurd (omega (arith, c.if-subjects-le-MOST_OF_A_SORT.false, leb-true _ _ h))),
       (λ few. absurd (omega (arith, more, few sides.Subject))),
     )
