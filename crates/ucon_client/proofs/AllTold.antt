@@ -1,7 +1,6 @@
 -- What all clients were told whose lines came while they ran.
-use Rattle.std.proofs.Common.{◌≡◌, ℕ, zero, suc, ◌+◌, ◌<◌, ◌≤◌, Bool, true, false, List, [], ◌∷◌, ◌++◌, Option, None, Some, Result, Ok, Err, map, length, get_or, drop, arith, refl, sym, ap, ◌∙◌, subst}
-use Rattle.std.specs.Prelude.{Box, nat_eq, if◌then◌else◌, slice_index_or, ⊤}
-use Rattle.std.specs.List.{filter}
+use Rattle.std.proofs.Common.{◌≡◌, ℕ, zero, suc, ◌+◌, ◌<◌, Bool, true, false, List, [], ◌∷◌, ◌++◌, Option, None, Result, Ok, Err, map, length, get_or, drop, arith, refl, sym, ap, ◌∙◌, subst}
+use Rattle.std.specs.Prelude.{Box, nat_eq, slice_index_or}
 use Rattle.std.proofs.lemmas.List.{append_assoc, append-nil, length-map, map-append}
 use Rattle.std.proofs.lemmas.Bool.{eqb-true}
 use Rattle.ucon_base.specs.declared.no_memory.NoMemory.{NoMemory}
@@ -10,7 +9,7 @@ use Rattle.ucon_flow.specs.Seen.{SourceSeen}
 use Rattle.ucon_turn.specs.Lists.{Continues, Has}
 use Rattle.ucon_turn.specs.Turns.{Opening, Knowledge}
 use Rattle.ucon_model.specs.declared.command.Entry.{Entry}
-use Rattle.ucon_model.specs.Document.{ScriptLine, entries_of, entry_of as said_entry}
+use Rattle.ucon_model.specs.Document.{ScriptLine, entries_of}
 use Rattle.ucon_model.specs.History.{History, said as said_by}
 use Rattle.ucon_model.specs.LegalRun.{Answered, history_made}
 use Rattle.ucon_script.specs.declared.coming_script.ComingScript.{ComingScript}
@@ -25,7 +24,7 @@ use Rattle.ucon_client.specs.declared.part.Part.{Part}
 use Rattle.ucon_client.specs.Answers.{IsAnswered, SaysFromStore, entry_of, answer_of, number, served_of, told_in, told_of}
 use Rattle.ucon_client.specs.Clients.{AreJoined, AreRight, AreRising, Replies, Served, faulted, told_by}
 use Rattle.ucon_client.specs.Dividing.{by_client, lines_below, own_lines}
-use Rattle.ucon_client.specs.Feeding.{AreEnded, AreFed, FeedsUpTo, HasFed, HasFedTo, IsFedUpTo, ended, fed_with, own}
+use Rattle.ucon_client.specs.Feeding.{HasFed, ended, fed_with, own}
 use Rattle.ucon_client.specs.declared.rule.Told.{Told}
 use Rattle.ucon_client.specs.Inbox.{Fed, nothing}
 use Rattle.ucon_client.specs.Live.{AreFrom, AreJudged, AreRunOver, AreServed, HasLived, HasServed, HasTaken, HaveTaken, as_of}

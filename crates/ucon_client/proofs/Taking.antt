@@ -3,7 +3,6 @@ use Rattle.std.proofs.Common.{◌≡◌, ◌↔◌, ℕ, ◌+◌, Bool, true, fa
 use Rattle.std.specs.Prelude.{Box, IfSome, IsSome, OnErr, OnOk, is_some}
 use Rattle.std.specs.Result.{result_err}
 use Rattle.std.proofs.lemmas.List.{append_assoc, append-nil, length-map, length_push, map-append}
-use Rattle.ucon_base.specs.Elements.{Each}
 use Rattle.ucon_base.specs.declared.no_memory.NoMemory.{NoMemory}
 use Rattle.ucon_turn.specs.Turns.{Opening, Knowledge}
 use Rattle.ucon_model.specs.declared.command.Entry.{Entry}

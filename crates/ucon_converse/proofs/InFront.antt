@@ -1,33 +1,29 @@
 -- Lines in front of what came.
-use Rattle.std.proofs.Common.{◌≡◌, ℕ, ◌+◌, ◌≤◌, ◌<◌, true, false, List, [], ◌∷◌, ◌++◌, length, take, drop, append_assoc, sym, ap, subst, ◌∙◌, arith, take-append-drop, length-append}
+use Rattle.std.proofs.Common.{◌≡◌, ℕ, ◌+◌, ◌≤◌, ◌<◌, List, [], ◌∷◌, ◌++◌, length, take, drop, append_assoc, sym, ap, subst, ◌∙◌, arith, take-append-drop, length-append}
 use Rattle.std.proofs.Math.Seq.{take-append_seam}
 use Rattle.std.proofs.lemmas.List.{append-nil, length-take, take-take}
-use Rattle.std.specs.Prelude.{◌==◌, Some, None, position, nat_lt}
+use Rattle.std.specs.Prelude.{◌==◌, Some, None, position}
 use Rattle.ucon_flow.specs.Lines.{HasNewline, IsBare, IsLine, first_line, newline}
-use Rattle.ucon_flow.proofs.Lines.{found, has_line, line_len, not_found}
 use Rattle.ucon_model.specs.Plain.{Bytes}
 use Rattle.ucon_tell.specs.Told.{AreReplied, IsReplied, Told}
 use Rattle.ucon_converse.specs.Fronts.{StandsInFront}
 
-whole_so : (n m : ℕ) → true ≡ nat_lt n m → n < m
-whole_so n m is = grind arith
+-- what the law of newlines says of a search that finds one, and of one that finds none
+abbrev Found : Type 0
+Found = (bytes : Bytes) (at : ℕ) → position (λ b. b == 10) bytes ≡ Some at → HasNewline bytes × (newline bytes ≡ at)
 
-at_newline : (came : Bytes) (at : ℕ) → Some at ≡ position (λ b. b == 10) came → HasNewline came × (newline came ≡ at)
-at_newline came at is =
-    let f = found came at is in
-    let whole : newline came < length came = whole_so (newline came) (length came) f.1 in
-    let len = line_len came in
-    let same : at + 1 ≡ length (first_line came) = f.0 in
-    (whole, omega arith)
+abbrev NotFound : Type 0
+NotFound = (bytes : Bytes) → position (λ b. b == 10) bytes ≡ None → IsBare bytes
 
 -- where the first newline was found, the line before it stands in front
-pub stands_in_front : (limit at : ℕ) (came : Bytes) → Some at ≡ position (λ b. b == 10) came → at < limit → StandsInFront limit (take at came) came
-stands_in_front limit at came is fits =
-    let n = at_newline came at is in
+pub stands_in_front : Found → ((bytes : Bytes) → HasNewline bytes → IsLine (first_line bytes)) → (limit at : ℕ) (came : Bytes) → Some at ≡ position (λ b. b == 10) came → at < limit → StandsInFront limit (take at came) came
+stands_in_front found has_line limit at came is fits =
+    let n = found came at (sym is) in
     let whole : newline came < length came = n.0 in
     let line : IsLine (first_line came) = has_line came n.0 in
+    let first_len = length-take (newline came + 1) came in
     let long : length (first_line came) ≡ length line.text + 1 = ap (λ (l : Bytes). length l) line.line_is ∙ length-append line.text (10 ∷ []) in
-    let size : length line.text ≡ at = let l = line_len came in let same = n.1 in omega arith in
+    let size : length line.text ≡ at = let same = n.1 in omega arith in
     let within : length line.text ≤ newline came + 1 = let same = n.1 in omega arith in
     let text : line.text ≡ take at came =
     sym (take-append_seam line.text (10 ∷ [])) ∙ (ap (λ (l : Bytes). take (length line.text) l) (sym line.line_is)
@@ -57,12 +53,9 @@ one_replied limit so line came old new stands is = record {
 }
 
 -- where the first newline stands too far behind, no line that fits stands in front
-pub too_far : (limit at : ℕ) (came : Bytes) → Some at ≡ position (λ b. b == 10) came → limit ≤ at → HasNewline came → newline came < limit → ⊥
-too_far limit at came is far whole fits = let n = at_newline came at is in let same : newline came ≡ at = n.1 in omega arith
+pub too_far : Found → (limit at : ℕ) (came : Bytes) → Some at ≡ position (λ b. b == 10) came → limit ≤ at → HasNewline came → newline came < limit → ⊥
+too_far found limit at came is far whole fits = let same : newline came ≡ at = (found came at (sym is)).1 in omega arith
 
 -- and none, where there is no newline
-pub none_there : (limit : ℕ) (came : Bytes) → None ≡ position (λ b. b == 10) came → HasNewline came → newline came < limit → ⊥
-none_there limit came is whole fits =
-    let n = not_found came is in
-    let lost : false ≡ nat_lt (newline came) (length came) = n.1 in
-    let no : ⊥ = grind arith in no
+pub none_there : NotFound → (limit : ℕ) (came : Bytes) → None ≡ position (λ b. b == 10) came → HasNewline came → newline came < limit → ⊥
+none_there not_found limit came is whole fits = let bare : newline came ≡ length came = not_found came (sym is) in omega arith

@@ -4,7 +4,6 @@ use Rattle.std.proofs.Math.Seq.{drop-append_seam}
 use Rattle.std.specs.Prelude.{◌==◌, Some, None, position, nat_lt, if◌then◌else◌}
 use Rattle.ucon_base.specs.Elements.{Each}
 use Rattle.ucon_flow.specs.Lines.{IsBare, newline}
-use Rattle.ucon_flow.proofs.Lines.{newline_behind}
 use Rattle.ucon_model.specs.Plain.{Bytes}
 use Rattle.ucon_tell.specs.Told.{Told, lines_of}
 
@@ -35,10 +34,14 @@ some_if n m lt = ap (λ (b : Bool). if b then Some n else None) (is n m lt)
     is : (a b : ℕ) → a < b → nat_lt a b ≡ true
     is a b less = grind arith
 
+-- what the law of newlines says of bytes without one, and of others behind them
+abbrev Behind : Type 0
+Behind = (xs ys : Bytes) → IsBare xs → newline (xs ++ ys) ≡ length xs + newline ys
+
 -- the first newline of a line without one, behind which it stands
-newline_there : (line behind : Bytes) → IsBare line → position (λ b. b == 10) (line ++ 10 ∷ behind) ≡ Some (length line)
-newline_there line behind bare =
-    let at : newline (line ++ 10 ∷ behind) ≡ length line = newline_behind line (10 ∷ behind) bare ∙ here (length line) in
+newline_there : Behind → (line behind : Bytes) → IsBare line → position (λ b. b == 10) (line ++ 10 ∷ behind) ≡ Some (length line)
+newline_there law line behind bare =
+    let at : newline (line ++ 10 ∷ behind) ≡ length line = law line (10 ∷ behind) bare ∙ here (length line) in
     let long = length-append line (10 ∷ behind) in
     some_if (newline (line ++ 10 ∷ behind)) (length (line ++ 10 ∷ behind)) (omega arith) ∙ ap (λ (n : ℕ). Some n) at
   where
@@ -46,9 +49,9 @@ newline_there line behind bare =
     here n = omega arith
 
 -- the next newline ends the next line
-pub next_newline : (told : List Told) (rest came : Bytes) (at i : ℕ) → Each (λ t. IsBare t.line) told → came ≡ lines_of told ++ rest → at ≡ length (lines_of (take i told))
+pub next_newline : Behind → (told : List Told) (rest came : Bytes) (at i : ℕ) → Each (λ t. IsBare t.line) told → came ≡ lines_of told ++ rest → at ≡ length (lines_of (take i told))
     → i < length told → (pos : ℕ) × (position (λ b. b == 10) (drop at came) ≡ Some pos) × (at + (pos + 1) ≡ length (lines_of (take (suc i) told)))
-next_newline told rest came at i each is here lt =
+next_newline law told rest came at i each is here lt =
     let p = parted i told each lt in
     let line = p.one.line in
     let before = lines_of (take i told) in
@@ -61,6 +64,6 @@ next_newline told rest came at i each is here lt =
     ap (λ (l : Bytes). length l) p.front ∙ length-append before (line ++ 10 ∷ []) in
     let one = length-append line (10 ∷ []) in (
       length line,
-      ap (λ (l : Bytes). position (λ b. b == 10) l) there ∙ newline_there line (lines_of p.behind ++ rest) p.bare,
+      ap (λ (l : Bytes). position (λ b. b == 10) l) there ∙ newline_there law line (lines_of p.behind ++ rest) p.bare,
       omega arith,
     )

@@ -4,11 +4,14 @@ ghost use Rattle.std.specs.Prelude.{◌≡◌, ◌+◌, ◌<◌, ◌≤◌, ◌=
 ghost use Rattle.ucon_flow.specs.Lines.{HasNewline, newline};
 ghost use Rattle.ucon_converse.specs.Fronts.{StandsInFront};
 
+use ucon_flow::searches_find_the_newline;
+
 /// The first line, without its newline. None if it isn't whole, or doesn't fit the limit with its newline.
 pub(crate) fn line_in_front(came: &[u8], limit: usize) -> Option<&[u8]>
     ensures line { IfSome result (λ line. StandsInFront limit line.now came.now) }
     ensures none { result ≡ None → HasNewline came.now → newline came.now < limit → ⊥ }
 {
+    searches_find_the_newline();
     match first_newline(came) {
         Some(at) => { if at < limit { Some(&came[..at]) } else { None } }
         None => None,

@@ -26,6 +26,7 @@ use ucon_base::NoMemory;
 use ucon_command::read_request;
 use ucon_disk::Disk;
 use ucon_engine::Engine;
+use ucon_flow::searches_find_the_newline;
 use ucon_model::Entry;
 use ucon_store::{BatchEnd, Batched, Placed, StepFault, Store};
 
@@ -253,6 +254,7 @@ pub(crate) fn len_of_lines(came: &[u8], count: usize) -> usize
     ensures { (told : List Told) (rest : Bytes) → Each (λ t. IsBare t.line) told → came.now ≡ lines_of told ++ rest → count ≡ length told
         → result ≡ length (lines_of told) }
 {
+    searches_find_the_newline();
     let mut at = 0;
     for _line in 0..count {
         match first_newline(&came[at..]) {

@@ -1,15 +1,15 @@
 -- Bytes that are read on, and their first line.
-use Rattle.std.proofs.Common.{◌≡◌, ℕ, ◌+◌, ◌-◌, ◌≤◌, ◌<◌, Bool, true, false, List, [], ◌∷◌, ◌++◌, length, take, drop, get_or, min, refl, sym, ap, ◌∙◌, subst, inl, inr, ⊎_elim, append_assoc, arith, eqb→eq, length-append, take-append-drop}
-use Rattle.std.specs.Prelude.{◌⊎◌, ◌==◌, Option, Some, None, Result, Ok, Err, OnErr, not, nat_lt, position, if◌then◌else◌}
+use Rattle.std.proofs.Common.{◌≡◌, ℕ, ◌+◌, ◌≤◌, ◌<◌, Bool, true, false, List, [], ◌∷◌, ◌++◌, length, take, drop, get_or, min, refl, sym, ap, ◌∙◌, subst, inl, inr, ⊎_elim, append_assoc, arith, length-append, take-append-drop}
+use Rattle.std.specs.Prelude.{◌⊎◌, ◌==◌, Some, None, Result, Ok, Err, OnErr, not, nat_lt, position, if◌then◌else◌}
 use Rattle.std.specs.Io.KnownBytes.{Consumes, IsAtEnd}
 use Rattle.std.proofs.KnownBytes.{Consumes-nil, Consumes-trans}
-use Rattle.std.proofs.Math.Seq.{drop-append_seam, take-length}
-use Rattle.std.proofs.lemmas.List.{append-nil, length-take, length-drop, take_all, take_min, take_more, drop-drop, drop_all, nil_from_length}
+use Rattle.std.proofs.Math.Seq.{drop-append_seam}
+use Rattle.std.proofs.lemmas.List.{append-nil, length-take, take_all, take_min, take_more, drop-drop, drop_all, nil_from_length}
 use Rattle.std.proofs.lemmas.List.Sums.{prefix_len-le-length, prefix_len_stops}
 use Rattle.std.proofs.lemmas.List.Folds.{prefix_len-append, length-prefix_len}
 use Rattle.ucon_flow.specs.Causes.{raised}
-use Rattle.ucon_flow.specs.Lines.{Reading, newline, HasNewline, IsBare, IsLine, first_line, Reads, Holds, IsAskedLast, GivesLine}
-use Rattle.ucon_flow.specs.Pieces.{Asks, AsksOnce}
+use Rattle.ucon_flow.specs.Lines.{Reading, newline, HasNewline, IsBare, IsLine, first_line, Reads, Holds, GivesLine}
+use Rattle.ucon_flow.specs.Pieces.{Asks}
 use Rattle.ucon_flow.specs.Seen.{SourceSeen}
 
 -- ---- newlines
@@ -69,30 +69,26 @@ is_none : (n : ℕ) (b : Bool) → (if b then Some n else None) ≡ None → b �
 is_none n true e = absurd (cc e)
 is_none n false e = refl
 
--- the first line of bytes in which a newline was found
-pub found : (bytes : List ℕ) (at : ℕ) → Some at ≡ position (λ b. b == 10) bytes → (at + 1 ≡ length (first_line bytes)) × (true ≡ nat_lt (newline bytes) (length bytes))
-found bytes at e =
-    let r = is_some (newline bytes) at (nat_lt (newline bytes) (length bytes)) (sym e) in
-    let l = line_len bytes in
-    let w = newline_within bytes in
-    let in_bytes : newline bytes < length bytes = grind arith in
-    (omega arith, sym r.1)
+-- a test that finds no newline
+pub not_there : (bytes : List ℕ) (whole : Bool) → whole ≡ nat_lt (newline bytes) (length bytes) → whole ≡ false → IsBare bytes
+not_there bytes whole e bare = let w = newline_within bytes in grind arith
 
--- and of bytes in which there is none
-pub not_found : (bytes : List ℕ) → None ≡ position (λ b. b == 10) bytes → (length bytes ≡ length (first_line bytes)) × (false ≡ nat_lt (newline bytes) (length bytes))
-not_found bytes e =
-    let r = is_none (newline bytes) (nat_lt (newline bytes) (length bytes)) (sym e) in
-    let l = line_len bytes in
-    let w = newline_within bytes in
-    let at_end : length bytes ≤ newline bytes = grind arith in
-    (omega arith, sym r)
+-- the place of the newline, in bytes in which one was found
+pub found : (bytes : List ℕ) (at : ℕ) → position (λ b. b == 10) bytes ≡ Some at → HasNewline bytes × (newline bytes ≡ at)
+found bytes at e =
+    let r = is_some (newline bytes) at (nat_lt (newline bytes) (length bytes)) e in
+    (whole (newline bytes) (length bytes) r.1, sym r.0)
+  where
+    whole : (n m : ℕ) → nat_lt n m ≡ true → n < m
+    whole n m e = grind arith
+
+-- bytes in which none was found have none
+pub not_found : (bytes : List ℕ) → position (λ b. b == 10) bytes ≡ None → IsBare bytes
+not_found bytes e = not_there bytes false (sym (is_none (newline bytes) (nat_lt (newline bytes) (length bytes)) e)) refl
 
 -- so many bytes as the first line has are the first line
 pub line_taken : (bytes : List ℕ) (len : ℕ) → len ≡ length (first_line bytes) → take len bytes ≡ first_line bytes
 line_taken bytes len e = ap (λ (n : ℕ). take n bytes) (e ∙ line_len bytes) ∙ take_min (newline bytes + 1) bytes
-
-pub rest_of : (bytes : List ℕ) (at : ℕ) → take (length bytes - at) (drop at bytes) ≡ drop at bytes
-rest_of bytes at = ap (λ (n : ℕ). take n (drop at bytes)) (sym (length-drop at bytes)) ∙ take-length (drop at bytes)
 
 -- bytes that have no newline, and a piece behind them
 pub pieced : (old new piece : List ℕ) (len more : ℕ) (whole ended : Bool) → new ≡ old ++ piece → len ≡ length (first_line old) → whole ≡ nat_lt (newline old) (length old) → whole ≡ false
@@ -178,10 +174,6 @@ module _ {S : Type 0} (seen : S → SourceSeen) where
             let longest : length (first_line b.held) ≡ length b.held = ap (λ (x : List ℕ). length x) (no_line b.held at.0) in
             inr (subst IsBare (sym line_is) at.0, omega arith, sym rest ∙ drop_all len b.held (omega arith), at.1)) o) whole;
       }
-
--- a test that finds no newline
-pub not_there : (bytes : List ℕ) (whole : Bool) → whole ≡ nat_lt (newline bytes) (length bytes) → whole ≡ false → IsBare bytes
-not_there bytes whole e bare = let w = newline_within bytes in grind arith
 
 pub never_both : (bytes : List ℕ) → HasNewline bytes → IsBare bytes → ⊥
 never_both bytes has bare = omega arith

@@ -1,14 +1,12 @@
 -- A line that is skipped piece by piece.
-use Rattle.std.proofs.Common.{◌≡◌, ℕ, ◌+◌, ◌≤◌, ◌<◌, List, [], ◌++◌, length, take, drop, refl, sym, ap, ◌∙◌, subst, inl, inr, append_assoc, arith, length-append, take-append-drop, true, ◌∷◌}
+use Rattle.std.proofs.Common.{◌≡◌, ℕ, ◌+◌, ◌≤◌, ◌<◌, List, [], ◌++◌, length, drop, refl, sym, ap, ◌∙◌, subst, inl, inr, append_assoc, arith, length-append, take-append-drop, true, ◌∷◌}
 use Rattle.std.specs.Prelude.{Option, Bool, Result, Ok, Err, IsErr}
-use Rattle.std.specs.Io.KnownBytes.{Consumes, IsAtEnd}
 use Rattle.std.proofs.KnownBytes.{Consumes-nil}
 use Rattle.std.proofs.lemmas.List.{append-nil, drop-drop}
-use Rattle.ucon_flow.specs.Causes.{raised}
 use Rattle.ucon_flow.specs.declared.source.ReadFault.{ReadFault}
 use Rattle.ucon_flow.specs.declared.source.ReadFault.TheVariants as faults
-use Rattle.ucon_flow.specs.Lines.{Reading, HasNewline, IsBare, IsLine, first_line, Reads, IsLeftAlone, Skips, SkippedBy}
-use Rattle.ucon_flow.specs.Pieces.{Asks, AsksOnce}
+use Rattle.ucon_flow.specs.Lines.{Reading, HasNewline, IsBare, first_line, Reads, Skips, SkippedBy}
+use Rattle.ucon_flow.specs.Pieces.{Asks}
 use Rattle.ucon_flow.proofs.Lines.{asked_more, bare_append, has_line, held_of, limit_of, line_taken}
 use Rattle.ucon_flow.specs.Seen.{SourceSeen}
 

@@ -1,5 +1,5 @@
 -- One more piece of a source.
-use Rattle.std.specs.Prelude.{◌≡◌, ◌⊎◌, ℕ, List, ◌++◌, Option}
+use Rattle.std.specs.Prelude.{◌≡◌, ◌⊎◌, ℕ, List, ◌++◌}
 use Rattle.std.specs.Io.KnownBytes.{Consumes}
 use Rattle.ucon_flow.specs.Causes.{raised}
 use Rattle.ucon_flow.specs.Lines.{Reading}

@@ -13,12 +13,14 @@
 #![tactic(auto)]
 
 mod calls;
+mod laws;
 mod line_reader;
 mod memory;
 mod real;
 mod sink;
 mod source;
 
+pub use laws::searches_find_the_newline;
 pub use line_reader::LineReader;
 pub use memory::{MemSink, MemSource};
 pub use real::{ReadSource, WriteSink};

@@ -7,7 +7,7 @@ use std::alloc::Global;
 use std::test::Fail;
 use ucon_base::NoMemory;
 use ucon_disk::{Disk, MemDisk};
-use ucon_flow::{LineReader, MemSource};
+use ucon_flow::{LineReader, MemSource, searches_find_the_newline};
 use ucon_tell::{Clocked, Keeper, MemVoice, TalkFault, talk, tell_all};
 
 /// Puts bytes on a disk behind the first `at`, where no more are there. They are there permanently if it succeeds.
@@ -84,6 +84,7 @@ impl<D: Disk + Drop> Keeper for Scribe<D> {
         _limit: usize,
         text: &mut Vec<u8>,
     ) -> Result<usize, NoMemory> {
+        searches_find_the_newline();
         let len = line_len(came);
         let mut kept = self.kept.to_vec(alloc)?;
         kept.extend_from_slice(&came[..len])?;

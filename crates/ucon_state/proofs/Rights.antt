@@ -140,3 +140,31 @@ none_has_it P R name has none = by_test (is_some (right_named P.rights name)) re
     by_test : (b : Bool) → is_some (right_named P.rights name) ≡ b → b ≡ false
     by_test true is = let there = sym (ap is_some none) ∙ has.all name is in absurd cc
     by_test false is = refl
+
+in_front : (names : List Bytes) (name e : Bytes) (i : ℕ) → slice_get (names ++ name ∷ []) i ≡ Some e → (e ≡ name → ⊥) → slice_get names i ≡ Some e
+in_front [] name e zero at other = absurd (other (sym (same_Some name e at)))
+in_front [] name e (suc i) at other = absurd cc
+in_front (x ∷ names) name e zero at other = at
+in_front (x ∷ names) name e (suc i) at other = in_front names name e i at other
+
+no_place : (o : Option ℕ) → is_some o ≡ false → o ≡ None
+no_place None h = refl
+no_place (Some n) h = absurd cc
+
+-- with a name behind that isn't among them, they stood first before
+pub stood_first : (P : PlainPolicy) (R : List Bytes) (name : Bytes) → IsTyped P → HasRights P R → is_some (position (bytes_eq name) R) ≡ false
+    → StandFirst P.rights (R ++ name ∷ []) → StandFirst P.rights R
+stood_first P R name typed has none stand i r at = in_front R name r.name i (stand i r at) other
+  where
+    other : r.name ≡ name → ⊥
+    other is =
+        let there : right_named P.rights name ≡ Some r =
+        ap (right_named P.rights) (sym is) ∙ found_there P [] P.rights (1 + length P.attrs + length P.envs) i r (rights_faultless P typed) at in
+        let lost = none_has_it P R name has (no_place (position (bytes_eq name) R) none) in
+        let no : false ≡ true = sym lost ∙ ap is_some there in
+        absurd cc
+
+-- where another name stands at a right's place, they don't
+pub not_first : (rs : List Right) (names : List Bytes) (i : ℕ) (r : Right) → slice_get rs i ≡ Some r → (slice_get names i ≡ Some r.name → ⊥)
+    → StandFirst (map right_of rs) names → ⊥
+not_first rs names i r at differs stand = differs (stand i (right_of r) (slice_get-map right_of rs i ∙ ap (option_map right_of) at))

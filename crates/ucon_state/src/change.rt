@@ -1,5 +1,10 @@
 //! What is needed to undo a change.
 
+ghost use Rattle.std.specs.Prelude.{◌≡◌, []};
+ghost use Rattle.ucon_model.specs.Checked.{checked_policy};
+ghost use Rattle.ucon_state.specs.Undo.{all_undone, policy_undone};
+ghost use Rattle.ucon_state.specs.Views.{lists_of};
+
 use crate::layout::Layout;
 use crate::planned::Planned;
 use crate::tables::Tables;
@@ -70,5 +75,16 @@ impl Undo {
             Undo::Changed(change) => tables.undo(change),
             Undo::Replaced(mut before) => before.swap(checked, tables),
         }
+    }
+}
+
+/// Undoes all these changes, the last one first, and leaves none.
+pub fn undo_changes(changes: &mut Vec<Undo>, planned: &mut Planned, tables: &mut Tables)
+    ensures policy { checked_policy planned.new.checked ≡ policy_undone changes.old.items (checked_policy planned.old.checked) }
+    ensures tables { lists_of tables.new ≡ all_undone changes.old.items (lists_of tables.old) }
+    ensures none { changes.new.items ≡ [] }
+{
+    while let Some(undo) = changes.pop() {
+        undo.run(planned, tables);
     }
 }

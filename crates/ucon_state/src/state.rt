@@ -1,6 +1,6 @@
 //! The state of a policy, and its changes.
 
-ghost use Rattle.std.specs.Prelude.{◌≡◌, true, map, [], ◌∷◌, ◌++◌, ◌≤ℤ◌, ◌<◌, ◌+◌, ◌⊎◌, length, position, Some, None, OnOk, OnErr, IfOk, IfSome};
+ghost use Rattle.std.specs.Prelude.{◌≡◌, ◌↔◌, true, map, [], ◌∷◌, ◌++◌, ◌≤ℤ◌, ◌<◌, ◌+◌, ◌⊎◌, length, position, Some, None, OnOk, OnErr, IfOk, IfSome};
 ghost use Rattle.std.specs.Prelude.{IsSome, IsSomeAnd, IsTrue, is_some, vec_len, vec_capacity};
 ghost use Rattle.std.specs.Str.{bytes_eq};
 ghost use Rattle.ucon_base.specs.Admits.{admits};
@@ -19,7 +19,7 @@ ghost use Rattle.ucon_state.specs.Views.{lists_of, with_layout};
 
 use crate::act::Act;
 use crate::beginnings::{attr_defaults, env_defaults, right_names};
-use crate::change::{Before, Undo};
+use crate::change::{Before, Undo, undo_changes};
 use crate::counts::Counts;
 use crate::held::ActRow;
 use crate::layout::Layout;
@@ -46,7 +46,7 @@ pub struct State {
     changes: Vec<Undo>,
     ghost sound: { AllSound (checked_policy planned.checked) rights.items changes.items (lists_of tables) },
     ghost has_rights: { HasRights (checked_policy planned.checked) rights.items },
-    ghost in_order: { is_in_order ≡ true → StandFirst (checked_policy planned.checked).rights rights.items },
+    ghost in_order: { (is_in_order ≡ true) ↔ StandFirst (checked_policy planned.checked).rights rights.items },
 }
 
 impl State {
@@ -366,10 +366,7 @@ impl State {
     pub fn undo_all(&mut self)
         ensures { shown self.new ≡ given_back (shown self.old) }
     {
-        self.is_in_order = false;
-        while let Some(undo) = self.changes.pop() {
-            undo.run(&mut self.planned, &mut self.tables);
-        }
+        undo_changes(&mut self.changes, &mut self.planned, &mut self.tables);
         self.is_in_order = are_in_order(&self.planned.checked, &self.rights);
     }
 
@@ -391,14 +388,14 @@ fn number_of(names: &[Name], name: &Name) -> Option<usize>
 
 /// Whether the rights of a policy stand first among the names, in their order.
 fn are_in_order(checked: &Checked, names: &[Name]) -> bool
-    ensures { result ≡ true → StandFirst (checked_policy checked.now).rights names.now }
+    ensures { (result ≡ true) ↔ StandFirst (checked_policy checked.now).rights names.now }
 {
     stand_first(checked.policy().rights.slice(), names)
 }
 
 /// Whether the names of these rights stand first among the names, in their order.
 fn stand_first(rights: &[Right], names: &[Name]) -> bool
-    ensures { result ≡ true → StandFirst (map right_of rights.now) names.now }
+    ensures { (result ≡ true) ↔ StandFirst (map right_of rights.now) names.now }
 {
     for at in 0..rights.len() {
         if at >= names.len() || names[at] != rights[at].name {

@@ -1,12 +1,10 @@
 -- Lines as they come.
-use Rattle.std.proofs.Common.{◌≡◌, ℕ, ◌+◌, ◌-◌, ◌^◌, ◌≤◌, ◌<◌, List, [], ◌∷◌, ◌++◌, length, refl, sym, ap, ◌∙◌, subst, ⊎_elim, append_assoc, arith, length-append}
+use Rattle.std.proofs.Common.{◌≡◌, ◌⊎◌, ℕ, ◌+◌, ◌-◌, ◌^◌, ◌≤◌, ◌<◌, List, [], ◌∷◌, ◌++◌, length, refl, sym, ap, ◌∙◌, ⊎_elim, append_assoc, arith, length-append}
 use Rattle.std.specs.Prelude.{◌==◌, not, Option, Result, Ok, Err}
-use Rattle.std.specs.Io.KnownBytes.{IsAtEnd}
 use Rattle.std.proofs.KnownBytes.{Consumes-nil, Consumes-trans}
-use Rattle.std.proofs.lemmas.List.{append-nil}
+use Rattle.std.proofs.lemmas.List.{append-nil, length-take}
 use Rattle.std.proofs.lemmas.List.Folds.{prefix_len-append}
 use Rattle.ucon_flow.specs.Lines.{Reading, newline, HasNewline, IsBare, first_line, Holds}
-use Rattle.ucon_flow.proofs.Lines.{line_len, newline_behind, bare_or_not, held_of}
 use Rattle.ucon_tell.specs.declared.talk_fault.TalkFault.{TalkFault}
 use Rattle.ucon_tell.specs.declared.talk_fault.TalkFault.TheVariants as faults
 use Rattle.ucon_tell.specs.declared.talking.Heard.{Heard}
@@ -20,24 +18,23 @@ use Rattle.ucon_flow.specs.Seen.{SourceSeen}
 newline_first : (xs ys : List ℕ) → HasNewline xs → newline (xs ++ ys) ≡ newline xs
 newline_first xs ys lt = let p = prefix_len-append (λ b. not (b == 10)) xs ys in grind arith
 
+-- what the law of newlines says of bytes without one, and of others behind them
+abbrev Behind : Type 0
+Behind = (xs ys : List ℕ) → IsBare xs → newline (xs ++ ys) ≡ length xs + newline ys
+
 -- bytes and a newline, and the bytes have none: it is the first
-newline_at : (text rest : List ℕ) → IsBare text → newline ((text ++ 10 ∷ []) ++ rest) ≡ length text
-newline_at text rest bare =
-    ap newline (append_assoc text (10 ∷ []) rest) ∙ (newline_behind text (10 ∷ rest) bare ∙ here (length text))
+newline_at : Behind → (text rest : List ℕ) → IsBare text → newline ((text ++ 10 ∷ []) ++ rest) ≡ length text
+newline_at behind text rest bare =
+    ap newline (append_assoc text (10 ∷ []) rest) ∙ (behind text (10 ∷ rest) bare ∙ here (length text))
   where
     here : (n : ℕ) → n + newline (10 ∷ rest) ≡ n
     here n = omega arith
 
 -- the first line of fewer bytes is no longer than that of more
-first_line_within : (xs ys : List ℕ) → length (first_line xs) ≤ newline (xs ++ ys) + 1
-first_line_within xs ys = ⊎_elim
-    (λ (h : HasNewline xs). let first = newline_first xs ys h in let l = line_len xs in omega arith)
-    (λ (bare : IsBare xs). let behind = newline_behind xs ys bare in let l = line_len xs in omega arith)
-    (bare_or_not xs)
-
--- the first line fits, and so its newline stands within the limit
-pub newline_fits : (limit : ℕ) (held : List ℕ) → HasNewline held → length (first_line held) ≤ limit → newline held < limit
-newline_fits limit held whole fits = let l = line_len held in omega arith
+first_line_within : Behind → (xs ys : List ℕ) → HasNewline xs ⊎ IsBare xs → length (first_line xs) ≤ newline (xs ++ ys) + 1
+first_line_within behind xs ys = ⊎_elim
+    (λ (h : HasNewline xs). let first = newline_first xs ys h in let l = length-take (newline xs + 1) xs in omega arith)
+    (λ (bare : IsBare xs). let after = behind xs ys bare in let l = length-take (newline xs + 1) xs in omega arith)
 
 -- ---- what comes next
 
@@ -46,71 +43,49 @@ module _ {S : Type 0} (seen : S → SourceSeen) where
   skipped_all : (a m b : Reading) (read more skipped : List ℕ) → m.held ≡ a.held ++ read → m.held ++ more ≡ skipped ++ b.held → a.held ++ (read ++ more) ≡ skipped ++ b.held
   skipped_all a m b read more skipped e all = sym (append_assoc a.held read more) ∙ (ap (λ (x : List ℕ). x ++ more) (sym e) ∙ all)
 
-  -- lines are held
-  pub holds_lines : (a b : Reading) (first last : S) → Holds seen a b first last → HasNewline b.held → length (first_line b.held) ≤ b.limit
-      → HoldsLines a.limit a.held b.held (seen first).left (seen last).left
-  holds_lines a b first last h whole fits = record {
-    read = h.read;
-    consumed = h.reads.consumed;
-    all = held_of a b h.read h.same;
-    whole = whole;
-    fits = subst (λ (n : ℕ). length (first_line b.held) ≤ n) (ap (λ (x : Reading). x.limit) h.same) fits;
-  }
-
-  -- no line is held, and the source is at its end; what is held is given out
-  pub holds_rest : (a b c : Reading) (first last : S) → Holds seen a b first last → IsBare b.held → IsAtEnd (seen last).left → c.held ≡ []
-      → Hears (Ok tt) a.held c.held (seen first).left (seen last).left []
-  holds_rest a b c first last h bare ended none = record {
-    read = h.read;
-    consumed = h.reads.consumed;
-    rest = b.held;
-    all = sym (held_of a b h.read h.same);
-    left_over = (bare, none, ended);
-  }
-
   -- a line that is too long, skipped
-  pub skipped_next : (r : Result Heard TalkFault) (a m b : Reading) (first mid last : S) → Holds seen a m first mid → m.limit < length (first_line m.held)
-      → SkipsNext seen r m b mid last → HearsNext r a.limit a.held b.held (seen first).left (seen last).left
-  skipped_next (Ok Over) a m b first mid last h long s = record {
+  pub skipped_next : Behind → ((bytes : List ℕ) → HasNewline bytes ⊎ IsBare bytes) → (r : Result Heard TalkFault) (a m b : Reading) (first mid last : S)
+      → Holds seen a m first mid → m.limit < length (first_line m.held) → SkipsNext seen r m b mid last → HearsNext r a.limit a.held b.held (seen first).left (seen last).left
+  skipped_next behind either (Ok Over) a m b first mid last h long s = record {
     read = h.read ++ s.read;
     consumed = Consumes-trans (seen first).left (seen mid).left (seen last).left h.read s.read h.reads.consumed s.reads.consumed;
     rest = s.skipped;
-    all = skipped_all a m b h.read s.read s.skipped (held_of a m h.read h.same) s.all ∙ (ap (λ (x : List ℕ). s.skipped ++ x) s.by.1 ∙ append-nil s.skipped);
+    all = skipped_all a m b h.read s.read s.skipped (ap (λ (x : Reading). x.held) h.same) s.all ∙ (ap (λ (x : List ℕ). s.skipped ++ x) s.by.1 ∙ append-nil s.skipped);
     left_over = s.by;
   }
-  skipped_next (Ok Lines) a m b first mid last h long s = absurd s.by
-  skipped_next (Ok TooLong) a m b first mid last h long s = record {
+  skipped_next behind either (Ok Lines) a m b first mid last h long s = absurd s.by
+  skipped_next behind either (Ok TooLong) a m b first mid last h long s = record {
     read = h.read ++ s.read;
     consumed = Consumes-trans (seen first).left (seen mid).left (seen last).left h.read s.read h.reads.consumed s.reads.consumed;
     line = s.by.text;
     bare = s.by.bare;
     long =
         let same : m.limit ≡ a.limit = ap (λ (x : Reading). x.limit) h.same in
-        let within = first_line_within m.held s.read in
-        let at : newline (m.held ++ s.read) ≡ length s.by.text = ap newline (s.all ∙ ap (λ (x : List ℕ). x ++ b.held) s.by.line_is) ∙ newline_at s.by.text b.held s.by.bare in
+        let within = first_line_within behind m.held s.read (either m.held) in
+        let at : newline (m.held ++ s.read) ≡ length s.by.text = ap newline (s.all ∙ ap (λ (x : List ℕ). x ++ b.held) s.by.line_is) ∙ newline_at behind s.by.text b.held s.by.bare in
         omega arith;
-    all = skipped_all a m b h.read s.read s.skipped (held_of a m h.read h.same) s.all ∙ ap (λ (x : List ℕ). x ++ b.held) s.by.line_is;
+    all = skipped_all a m b h.read s.read s.skipped (ap (λ (x : Reading). x.held) h.same) s.all ∙ ap (λ (x : List ℕ). x ++ b.held) s.by.line_is;
   }
-  skipped_next (Err faults.SourceFault) a m b first mid last h long s = record {
+  skipped_next behind either (Err faults.SourceFault) a m b first mid last h long s = record {
     read = h.read ++ s.read;
     consumed = Consumes-trans (seen first).left (seen mid).left (seen last).left h.read s.read h.reads.consumed s.reads.consumed;
     rest = s.skipped;
-    all = skipped_all a m b h.read s.read s.skipped (held_of a m h.read h.same) s.all ∙ (ap (λ (x : List ℕ). s.skipped ++ x) s.by.1 ∙ append-nil s.skipped);
+    all = skipped_all a m b h.read s.read s.skipped (ap (λ (x : Reading). x.held) h.same) s.all ∙ (ap (λ (x : List ℕ). s.skipped ++ x) s.by.1 ∙ append-nil s.skipped);
     left_over = s.by.0;
   }
-  skipped_next (Err faults.SinkFault) a m b first mid last h long s = absurd s.by
-  skipped_next (Err faults.TooLong) a m b first mid last h long s = record {
+  skipped_next behind either (Err faults.SinkFault) a m b first mid last h long s = absurd s.by
+  skipped_next behind either (Err faults.TooLong) a m b first mid last h long s = record {
     read = h.read ++ s.read;
     consumed = Consumes-trans (seen first).left (seen mid).left (seen last).left h.read s.read h.reads.consumed s.reads.consumed;
     rest = s.skipped ++ b.held;
-    all = skipped_all a m b h.read s.read s.skipped (held_of a m h.read h.same) s.all;
+    all = skipped_all a m b h.read s.read s.skipped (ap (λ (x : Reading). x.held) h.same) s.all;
     left_over = s.by;
   }
-  skipped_next (Err (faults.NoMemory e)) a m b first mid last h long s = record {
+  skipped_next behind either (Err (faults.NoMemory e)) a m b first mid last h long s = record {
     read = h.read ++ s.read;
     consumed = Consumes-trans (seen first).left (seen mid).left (seen last).left h.read s.read h.reads.consumed s.reads.consumed;
     rest = s.skipped ++ b.held;
-    all = skipped_all a m b h.read s.read s.skipped (held_of a m h.read h.same) s.all;
+    all = skipped_all a m b h.read s.read s.skipped (ap (λ (x : Reading). x.held) h.same) s.all;
     left_over = tt;
   }
 

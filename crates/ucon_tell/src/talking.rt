@@ -11,7 +11,7 @@ use crate::talk_fault::TalkFault;
 use crate::telling::tell_all;
 use crate::voice::Voice;
 use std::alloc::Global;
-use ucon_flow::{LineReader, ReadFault, SinkFault, Source};
+use ucon_flow::{LineReader, ReadFault, SinkFault, Source, searches_find_the_newline};
 
 /// What came next.
 #[derive(Clone, Copy)]
@@ -94,6 +94,7 @@ fn hear<S: Source>(lines: &mut LineReader, input: &mut S) -> Result<Heard, TalkF
     ensures failed { IsErrOf result TalkFault.SourceFault → (S.seen input.new).faults ≡ raised (S.seen input.old).faults }
     ensures unfailed { result ≢ Err TalkFault.SourceFault → (S.seen input.new).faults ≡ (S.seen input.old).faults }
 {
+    searches_find_the_newline();
     match lines.await_line(input) {
         Ok(true) => Ok(Heard::Lines),
         Ok(false) => {

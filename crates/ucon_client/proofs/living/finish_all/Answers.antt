@@ -1,4 +1,4 @@
-use Rattle.std.proofs.Common.{Global, rules, ◌≡◌, ℕ, ◌+◌, ◌<◌, List, [], ◌∷◌, ◌++◌, None, Option, true, map, length, get_or, drop, arith, refl, sym, ap, ◌∙◌, subst}
+use Rattle.std.proofs.Common.{Global, rules, ◌≡◌, ℕ, List, [], ◌∷◌, ◌++◌, None, Option, true, map, length, get_or, drop, sym, ap, ◌∙◌, subst}
 use Rattle.std.specs.Prelude.{Box}
 use Rattle.std.proofs.lemmas.List.{append_assoc, append-nil, map-append}
 use Rattle.ucon_base.specs.declared.no_memory.NoMemory.{NoMemory}

@@ -1,4 +1,4 @@
-use Rattle.std.proofs.Common.{Global, ◌≡◌, ◌+◌, ◌≤◌, ◌++◌, true, map, length, vec_len}
+use Rattle.std.proofs.Common.{◌≡◌, ◌+◌, ◌≤◌, ◌++◌, true, map, length, vec_len}
 use Rattle.std.specs.Prelude.{vec_capacity}
 use Rattle.ucon_base.specs.Elements.{Each}
 use Rattle.ucon_client.specs.Answers.{IsAnswered, ServesWith}

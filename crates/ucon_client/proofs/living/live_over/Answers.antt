@@ -1,4 +1,4 @@
-use Rattle.std.proofs.Common.{Global, rules, ◌≡◌, ℕ, ◌<◌, List, ◌++◌, true, length, map, refl, sym, ap, ◌∙◌, subst, arith}
+use Rattle.std.proofs.Common.{Global, ◌≡◌, List, true, length, map, sym, ap, ◌∙◌, subst}
 use Rattle.std.specs.Prelude.{Box}
 use Rattle.std.proofs.lemmas.List.{length-map}
 use Rattle.ucon_base.specs.Elements.{Each}
@@ -7,7 +7,6 @@ use Rattle.ucon_client.specs.declared.client.Client.{Client}
 use Rattle.ucon_client.specs.declared.live_client.LiveClient.{LiveClient}
 use Rattle.ucon_client.specs.declared.part.Part.{Part}
 use Rattle.ucon_client.specs.Answers.{IsAnswered, ServesWith, number}
-use Rattle.ucon_client.specs.Clients.{AreRising}
 use Rattle.ucon_client.specs.Inbox.{Fed}
 use Rattle.ucon_client.specs.Live.{AreFrom, HaveTaken, Lives}
 use Rattle.ucon_client.proofs.AllLive.{all_of_each, each_mapped, each_of_all, from_rising, map_twice, seated_numbers, seats_back}

@@ -1,6 +1,6 @@
 use Rattle.std.proofs.Common.{suc, ◌≡◌, ◌+◌, ◌<◌, ◌∙◌, ℕ, length, take, drop, arith, ap}
 use Rattle.std.specs.Prelude.{◌==◌, Some, None, position}
-use Rattle.ucon_flow.proofs.Lines.{rest_of}
+use Rattle.std.proofs.lemmas.List.{take_rest}
 use Rattle.ucon_model.specs.Plain.{Bytes}
 use Rattle.ucon_tell.specs.Told.{lines_of}
 use Rattle.ucon_converse.proofs.Lengths.{next_newline}
@@ -11,8 +11,8 @@ returns-in-None c = λ told rest each is count.
     let at = c.loop-line.at in
     let came = c.args.came.now in
     let lt : c.loop-line._line < length told = omega arith in
-    let n = next_newline told rest came at c.loop-line._line each is (c.loop-line.invariant.so_far told rest each is count) lt in
-    let none : None ≡ position (λ b. b == 10) (drop at came) = c.in-None.ensures.place ∙ ap (λ (l : Bytes). position (λ b. b == 10) l) (rest_of came at) in
+    let n = next_newline c.searches_find_the_newline.ensures.behind told rest came at c.loop-line._line each is (c.loop-line.invariant.so_far told rest each is count) lt in
+    let none : None ≡ position (λ b. b == 10) (drop at came) = c.in-None.ensures.place ∙ ap (λ (l : Bytes). position (λ b. b == 10) l) (take_rest came at) in
     let bad : None ≡ Some n.0 = none ∙ n.1 in
     absurd (cc bad)
 
@@ -24,8 +24,8 @@ loop-line-preserved c = record {
       let i = c.loop-line._line in
       let came = c.args.came.now in
       let lt : i < length told = omega arith in
-      let n = next_newline told rest came at i each is (c.loop-line.invariant.so_far told rest each is count) lt in
-      let found : Some c.in-Some.len ≡ position (λ b. b == 10) (drop at came) = c.in-Some.ensures.place ∙ ap (λ (l : Bytes). position (λ b. b == 10) l) (rest_of came at) in
+      let n = next_newline c.searches_find_the_newline.ensures.behind told rest came at i each is (c.loop-line.invariant.so_far told rest each is count) lt in
+      let found : Some c.in-Some.len ≡ position (λ b. b == 10) (drop at came) = c.in-Some.ensures.place ∙ ap (λ (l : Bytes). position (λ b. b == 10) l) (take_rest came at) in
       let both : Some c.in-Some.len ≡ Some n.0 = found ∙ n.1 in
       let same : c.in-Some.len ≡ n.0 = cc both in
       let next : suc i ≡ i + 1 = omega arith in

@@ -1,8 +1,7 @@
 use Rattle.std.proofs.Common.{rules, ◌≡◌, ◌++◌, ◌∷◌, [], ◌<◌, List, drop, arith, sym, subst}
 use Rattle.std.specs.List.{All}
-use Rattle.std.proofs.lemmas.List.{drop-drop}
+use Rattle.std.proofs.lemmas.List.{drop-drop, take_rest}
 use Rattle.std.proofs.lemmas.List.Elements.{All-push}
-use Rattle.ucon_flow.proofs.Lines.{rest_of}
 use Rattle.ucon_model.specs.declared.command.Entry.{Entry}
 use Rattle.ucon_model.specs.Plain.{Bytes}
 use Rattle.ucon_converse.specs.Together.{AreInFront, IsInFront}
@@ -19,7 +18,7 @@ loop-alloc-preserved c =
     let asked : Entry = c.in-Some.asked in
     let len = c.in-Some.len in
     let items : c.push.new.self.items ≡ lines ++ asked ∷ [] = search rules in
-    let one : IsInFront limit asked len (drop at came) = subst (λ (x : Bytes). IsInFront limit asked len x) (rest_of came at) c.in-Some.ensures.front in
+    let one : IsInFront limit asked len (drop at came) = subst (λ (x : Bytes). IsInFront limit asked len x) (take_rest came at) c.in-Some.ensures.front in
     let more = one_more_in_front limit lines asked len came (drop at came) inv.front one in
     record {
       front = subst (λ (z : List Entry × Bytes). AreInFront limit z.0 came z.1) (λ i. (sym items i, drop-drop len at came i)) more;

@@ -1,4 +1,4 @@
-use Rattle.std.proofs.Common.{◌≡◌, ◌∙◌, ap, sym, get_or, subst, take, List, Some, map}
+use Rattle.std.proofs.Common.{◌≡◌, ◌∙◌, ap, refl, sym, get_or, subst, take, List, Some, map}
 use Rattle.std.proofs.lemmas.List.{take_all}
 use Rattle.std.proofs.lemmas.Option.{slice_get-get_or}
 use Rattle.ucon_model.specs.declared.policy.Right.{Right}
@@ -25,6 +25,6 @@ loop-at-preserved c =
     }
 
 pub returns : goal.returns
-returns c = λ so.
+returns c =
     let whole : take c.loop-at.at c.args.rights.now ≡ c.args.rights.now = take_all c.loop-at.at c.args.rights.now c.loop-at-test.false in
-    subst (λ (rs : List Right). StandFirst (map right_of rs) c.args.names.now) whole c.loop-at.invariant.stand
+    (λ so. subst (λ (rs : List Right). StandFirst (map right_of rs) c.args.names.now) whole c.loop-at.invariant.stand, λ stand. refl)

@@ -1,5 +1,5 @@
-use Rattle.std.proofs.Common.{Global, rules, ◌≡◌, List, [], ◌∷◌, ◌++◌, None, Option, true, false, not, ap, sym, ◌∙◌, subst}
-use Rattle.std.specs.Prelude.{Box, IsSome, OnOk, is_some}
+use Rattle.std.proofs.Common.{Global, ◌≡◌, List, [], ◌∷◌, ◌++◌, None, Option, true, false, not, ap, sym, ◌∙◌, subst}
+use Rattle.std.specs.Prelude.{Box, IsSome, OnOk}
 use Rattle.ucon_base.specs.declared.no_memory.NoMemory.{NoMemory}
 use Rattle.ucon_script.specs.declared.document.Line.{Line}
 use Rattle.ucon_client.specs.Live.{HasTaken, Lives, as_of}

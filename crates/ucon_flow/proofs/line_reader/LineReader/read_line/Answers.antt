@@ -1,7 +1,8 @@
-use Rattle.std.proofs.Common.{◌≡◌, ℕ, ◌+◌, ◌++◌, ◌<◌, ◌∙◌, sym, subst, false, List, length, drop, ap, arith, rules, inl, inr, length-append}
+use Rattle.std.proofs.Common.{◌≡◌, ℕ, ◌++◌, ◌<◌, ◌∙◌, sym, subst, false, List, length, drop, ap, arith, rules, inr}
 use Rattle.std.specs.Prelude.{nat_lt}
+use Rattle.std.proofs.lemmas.List.{take_rest}
 use Rattle.ucon_flow.specs.Lines.{Reading, newline, first_line, IsBare}
-use Rattle.ucon_flow.proofs.Lines.{asked_on, asked_nothing, asked_some, newline_held, never_both, not_there, on_err, pieced, rest_of, limit_of, whole_len}
+use Rattle.ucon_flow.proofs.Lines.{asked_on, asked_nothing, asked_some, newline_held, never_both, not_there, on_err, pieced, limit_of, whole_len}
 use Rattle.ucon_flow.proofs.line_reader.LineReader.read_line.Goals as goal
 
 pub returns-in_err-read_piece-clause-read : goal.returns-in_err-read_piece-clause-read
@@ -46,7 +47,7 @@ loop-whole-preserved g c =
     let same_limit : new.limit ≡ old.limit = limit_of c.args.self.now new so_far.read so_far.same ∙ sym (limit_of c.args.self.now old c.loop-whole.invariant.read.read c.loop-whole.invariant.read.same) in
     let step = asked_some g.S.Source.seen old new c.loop-whole.source c.read_piece.new.source c.in_ok-read_piece.field-0 c.read_piece.ensures.asked c.in_ok-read_piece.ensures.count.0 in
     let grown : new.held ≡ old.held ++ step.0 = step.1 in
-    let rest = rest_of c.held-in-loop-whole.result.now c.loop-whole.len ∙ ap (λ (x : List ℕ). drop c.loop-whole.len x) c.held-in-loop-whole.ensures in
+    let rest = take_rest c.held-in-loop-whole.result.now c.loop-whole.len ∙ ap (λ (x : List ℕ). drop c.loop-whole.len x) c.held-in-loop-whole.ensures in
     let p = pieced old.held new.held step.0 c.loop-whole.len c.first_line-more.result.0 c.loop-whole.whole c.first_line-more.result.1 grown c.loop-whole.invariant.len c.loop-whole.invariant.whole bare
     (c.first_line-more.ensures.len ∙ ap (λ (x : List ℕ). length (first_line x)) rest)
     (c.first_line-more.ensures.whole ∙ ap (λ (x : List ℕ). nat_lt (newline x) (length x)) rest) in

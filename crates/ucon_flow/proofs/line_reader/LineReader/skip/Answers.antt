@@ -1,8 +1,7 @@
-use Rattle.std.proofs.Common.{◌≡◌, ℕ, ◌+◌, ◌-◌, ◌^◌, ◌++◌, ◌<◌, ◌≤◌, ◌∙◌, sym, subst, false, List, [], length, drop, ap, arith, rules, inl, inr, length-append, refl}
+use Rattle.std.proofs.Common.{◌≡◌, ℕ, ◌++◌, ◌<◌, ◌≤◌, ◌∙◌, sym, subst, false, List, [], length, ap, arith, rules, refl}
 use Rattle.std.specs.Prelude.{nat_lt, Ok, Err, true}
-use Rattle.std.proofs.lemmas.List.{append-nil}
-use Rattle.ucon_flow.specs.Lines.{Reading, newline, first_line, HasNewline, IsBare}
-use Rattle.ucon_flow.proofs.Lines.{asked_nothing, asked_some, never_both, not_there}
+use Rattle.ucon_flow.specs.Lines.{Reading, newline, first_line, HasNewline}
+use Rattle.ucon_flow.proofs.Lines.{asked_nothing, never_both, not_there}
 use Rattle.ucon_flow.proofs.Skipped.{by_refusal, none_skipped, skipped_on, longer, skipped_so_far, skipped_whole}
 use Rattle.ucon_flow.specs.declared.source.ReadFault.TheVariants as faults
 use Rattle.ucon_flow.proofs.line_reader.LineReader.skip.Goals as goal

@@ -1,4 +1,4 @@
-use Rattle.std.proofs.Common.{◌≡◌, ◌+◌, ◌≤◌, ◌++◌, length, max}
+use Rattle.std.proofs.Common.{◌≡◌, ◌≤◌, ◌++◌, length, max}
 use Rattle.ucon_flow.specs.Lines.{HasNewline}
 use Rattle.ucon_flow.proofs.Skipped.{Skipping}
 use Rattle.ucon_flow.proofs.line_reader.LineReader.skip.Given as goal

@@ -1,9 +1,9 @@
-use Rattle.std.proofs.Common.{◌∙◌, sym, ap, subst}
+use Rattle.std.proofs.Common.{◌≡◌, ◌∙◌, ◌↔◌, true, List, sym, ap, subst}
 use Rattle.std.specs.Box.{with_value}
 use Rattle.ucon_model.specs.Action.{amend}
 use Rattle.ucon_model.specs.Checked.{checked_policy}
 use Rattle.ucon_model.specs.Limits.{HasFewAttrs}
-use Rattle.ucon_model.specs.Plain.{PlainPolicy}
+use Rattle.ucon_model.specs.Plain.{Bytes, PlainPolicy}
 use Rattle.ucon_state.specs.declared.change.Before.{Before}
 use Rattle.ucon_state.specs.declared.change.Undo.TheVariants.{Replaced}
 use Rattle.ucon_state.specs.Applied.{amended}
@@ -33,7 +33,9 @@ invariant_of-self-2 c =
       sound = amended_sound P (checked_policy c.swap.new.planned.checked) R s.changes.items c.push_reserved.new.self.items u t (lists_of c.swap.new.tables)
           added c.swap.ensures.policy_held c.swap.ensures.layout_held is few s.sound rights;
       has_rights = rights;
-      in_order = λ so. subst (StandFirst (checked_policy c.swap.new.planned.checked).rights) c.deref.ensures.value (c.are_in_order-self.ensures so);
+      in_order =
+          subst (λ (names : List Bytes). (c.are_in_order-self.result ≡ true) ↔ StandFirst (checked_policy c.swap.new.planned.checked).rights names)
+          c.deref.ensures.value c.are_in_order-self.ensures;
     }
 
 pub returns-clause-ok : goal.returns-clause-ok

@@ -1,4 +1,4 @@
-use Rattle.std.proofs.Common.{◌≡◌, ◌∙◌, sym, ap, subst, List, map, is_some, position}
+use Rattle.std.proofs.Common.{◌≡◌, ◌∙◌, refl, sym, ap, subst, List, map, is_some, position}
 use Rattle.std.specs.Str.{bytes_eq}
 use Rattle.ucon_base.specs.declared.value.Value.{Value}
 use Rattle.ucon_model.specs.Checked.{checked_policy}
@@ -33,7 +33,7 @@ invariant_of-result c =
     record {
       sound = subst (λ cs. AllSound P R cs t) (sym c.new-3.ensures.items) (sound_alone P R t kept has_rights);
       has_rights = has_rights;
-      in_order = λ so. subst (StandFirst P.rights) (sym c.in_ok-rights.ensures.names) (own_stand_first P.rights);
+      in_order = (λ so. subst (StandFirst P.rights) (sym c.in_ok-rights.ensures.names) (own_stand_first P.rights), λ stand. refl);
     }
 
 pub returns-clause-policy : goal.returns-clause-policy

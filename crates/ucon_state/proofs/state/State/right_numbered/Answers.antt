@@ -10,4 +10,4 @@ returns-in-Some c =
     let P = checked_policy c.args.self.now.planned.checked in
     let R = right_names c.args.self.now in
     sym (named_at P R c.policy-policy.result.now.rights.items c.args.number c.in-Some.right.now (ap (λ (Q : PlainPolicy). Q.rights) c.policy-policy.ensures.policy)
-    c.policy-policy.ensures.typed (c.args.self.now.in_order c.if-self.true) (sym c.in-Some.ensures))
+    c.policy-policy.ensures.typed (c.args.self.now.in_order.0 c.if-self.true) (sym c.in-Some.ensures))

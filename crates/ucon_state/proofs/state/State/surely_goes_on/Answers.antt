@@ -29,4 +29,4 @@ returns-in-Some-plan c = λ yes.
     let row = row_of R t.subjects t.objects x in
     let plan = c.in-Some-plan.ensures in
     ap (option_and_then (failing_of P S)) (row_is R t c.args.session x (sym c.in-Some.ensures))
-    ∙ met_enough P R S row x.right c.in-Some-plan.checks.now refl (plan.there refl) s.planned.typed (s.in_order c.if-not-self.false) plan.enough (c.are_met.ensures yes)
+    ∙ met_enough P R S row x.right c.in-Some-plan.checks.now refl (plan.there refl) s.planned.typed (s.in_order.0 c.if-not-self.false) plan.enough (c.are_met.ensures yes)

@@ -1,33 +1,37 @@
-use Rattle.std.proofs.Common.{◌∙◌, sym, ap, subst}
+use Rattle.std.proofs.Common.{◌≡◌, ◌∙◌, ◌↔◌, true, List, [], sym, ap, subst}
 use Rattle.ucon_model.specs.Checked.{checked_policy}
-use Rattle.ucon_model.specs.Plain.{PlainPolicy}
-use Rattle.ucon_state.specs.Shown.{right_names}
-use Rattle.ucon_state.specs.Sound.{AllSound}
-use Rattle.ucon_state.specs.Stored.{named}
-use Rattle.ucon_state.specs.Undo.{all_undone, policy_before, policy_undone}
+use Rattle.ucon_model.specs.Plain.{Bytes, PlainPolicy}
+use Rattle.ucon_state.specs.declared.change.Undo.{Undo}
+use Rattle.ucon_state.specs.Shown.{right_names, showing}
+use Rattle.ucon_state.specs.Sound.{AllSound, HasRights, IsKept, StandFirst}
+use Rattle.ucon_state.specs.Undo.{policy_undone}
 use Rattle.ucon_state.specs.Views.{lists_of}
-use Rattle.ucon_state.proofs.Stages.{holds_now, newest_first, newest_policy, sound_without_one}
+use Rattle.ucon_state.proofs.Stages.{sound_alone}
 use Rattle.ucon_state.proofs.state.State.undo_all.Goals as goal
 
-pub invariant_of-self-in-Some : goal.invariant_of-self-in-Some
-invariant_of-self-in-Some c =
-    let P = checked_policy c.loop-undo.self.planned.checked in
-    let R = right_names c.loop-undo.self in
-    let t = lists_of c.loop-undo.self.tables in
-    let left = c.pop.new.self.items in
-    let u = c.in-Some.undo in
-    let all = subst (λ cs. AllSound P R cs t) c.in-Some.ensures.items c.loop-undo.self.sound in
-    let back = subst (AllSound (policy_before u P) R left) (sym c.run.ensures.tables) (sound_without_one R P left u t all) in
-    let sound = subst (λ (Q : PlainPolicy). AllSound Q R left (lists_of c.run.new.tables)) (sym c.run.ensures.policy) back in
-    record { sound = sound; has_rights = (holds_now (checked_policy c.run.new.checked.checked) R left (lists_of c.run.new.tables) sound).1; in_order = λ so. (let no = c.loop-undo.invariant.in_no_order in absurd cc) }
+pub invariant_of-self : goal.invariant_of-self
+invariant_of-self c =
+    let s = c.args.self.now in
+    let R = right_names s in
+    let Q = checked_policy c.undo_changes.new.planned.checked in
+    let t = lists_of c.undo_changes.new.tables in
+    let was = s.sound 0 in
+    let policy = sym c.undo_changes.ensures.policy in
+    let kept : IsKept Q R t =
+    subst (λ (P : PlainPolicy). IsKept P R t) policy
+    (subst (IsKept (policy_undone s.changes.items (checked_policy s.planned.checked)) R) (sym c.undo_changes.ensures.tables) was.0) in
+    let has_rights : HasRights Q R = subst (λ (P : PlainPolicy). HasRights P R) policy was.1 in
+    record {
+      sound = subst (λ (cs : List Undo). AllSound Q R cs t) (sym c.undo_changes.ensures.none) (sound_alone Q R t kept has_rights);
+      has_rights = has_rights;
+      in_order =
+          subst (λ (names : List Bytes). (c.are_in_order-self.result ≡ true) ↔ StandFirst Q.rights names) c.deref.ensures.value c.are_in_order-self.ensures;
+    }
 
-pub loop-undo-preserved : goal.loop-undo-preserved
-loop-undo-preserved c =
-    let P = checked_policy c.loop-undo.self.planned.checked in
-    let R = right_names c.loop-undo.self in
-    let t = lists_of c.loop-undo.self.tables in
-    let left = c.pop.new.self.items in
-    let u = c.in-Some.undo in
-    let policy = ap (policy_undone left) c.run.ensures.policy ∙ sym (newest_policy left u P) ∙ sym (ap (λ cs. policy_undone cs P) c.in-Some.ensures.items) in
-    let back = ap (all_undone left) c.run.ensures.tables ∙ sym (newest_first left u t) ∙ sym (ap (λ cs. all_undone cs t) c.in-Some.ensures.items) in
-    record { policy = policy ∙ c.loop-undo.invariant.policy; opening = ap (named R) back ∙ c.loop-undo.invariant.opening; rights = c.loop-undo.invariant.rights; in_no_order = c.loop-undo.invariant.in_no_order }
+pub returns : goal.returns
+returns c =
+    let s = c.args.self.now in
+    let R = right_names s in
+    let t = lists_of c.undo_changes.new.tables in
+    ap (λ (cs : List Undo). showing (checked_policy c.undo_changes.new.planned.checked) R t cs) c.undo_changes.ensures.none
+    ∙ (λ j. showing (c.undo_changes.ensures.policy j) R (c.undo_changes.ensures.tables j) [])
