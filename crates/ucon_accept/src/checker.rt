@@ -363,8 +363,9 @@ impl Asked {
 fn first_untrue(asked: Asked, whys: &[Why]) -> Option<Name>
     ensures { result ≡ first_untrue (are_duties asked) (map why_of whys.now) }
 {
+    let duties = asked.are_duties();
     for why in whys {
-        if asked.are_duties() == why.factor.is_duty() && !why.truth {
+        if duties == why.factor.is_duty() && !why.truth {
             return Some(why.label);
         }
     }
