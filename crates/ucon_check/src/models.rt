@@ -71,7 +71,8 @@ fn updates_at(kind: CoreKind, updates: &[Update], when: When) -> bool
 
 /// Adds a kind's models, which are told apart by updates before, during and after a usage.
 fn put_indices(kind: CoreKind, updates: &[Update], cores: &mut Vec<Core>) -> Result<(), NoMemory>
-    ensures { OnOk result (cores.new.items ≡ cores.old.items ++ map (λ i. record { kind = kind; index = i }) (indices kind (map update_of updates.now))) }
+    ensures { OnOk result (cores.new.items
+        ≡ cores.old.items ++ map (λ i. record { kind = kind; index = i }) (indices kind (map update_of updates.now))) }
 {
     let before = updates_at(kind, updates, When::Before);
     let during = updates_at(kind, updates, When::During);
