@@ -15,6 +15,8 @@ use Rattle.ucon_model.specs.Decision.{denied_else, waiting_else}
 use Rattle.ucon_model.specs.Places.{formula_places, same_place}
 use Rattle.ucon_model.specs.Plain.{Bytes, PlainFormula, PlainTest, authorisation, duty, condition}
 use Rattle.ucon_model.specs.Truth.{Readings, read_or_zero}
+use Rattle.ucon_accept.specs.declared.checker.Asked.{Asked}
+use Rattle.ucon_accept.specs.declared.checker.Asked.TheVariants.{Duties, Others}
 use Rattle.ucon_accept.specs.declared.checker.Wrong.{Wrong}
 use Rattle.ucon_accept.specs.declared.checker.Wrong.TheVariants.{Names, Line, Verdict as WrongVerdict}
 use Rattle.ucon_accept.specs.declared.explanation.Fact.{Fact}
@@ -92,6 +94,11 @@ abbrev pub is_on_duty : Factor → Bool
 is_on_duty Authorisation = false
 is_on_duty Obligation' = true
 is_on_duty Condition = false
+
+-- whether those on obligations are asked, and not the others
+abbrev pub are_duties : Asked → Bool
+are_duties Duties = true
+are_duties Others = false
 
 -- whether two truths are the same
 abbrev pub same_truth : Bool → Bool → Bool

@@ -8,14 +8,14 @@ ghost use Rattle.ucon_model.specs.Truth.{read_or_zero, truth};
 ghost use Rattle.ucon_model.specs.Views.{expr_of, formula_of, predicate_of, test_of};
 ghost use Rattle.ucon_base.specs.Arithmetic.{same_value};
 ghost use Rattle.ucon_model.specs.Sums.{preds_make_no_set, test_makes_no_set};
-ghost use Rattle.ucon_accept.specs.Checking.{IsCause, IsFirstWrong, all_read, first_untrue, is_of_place, is_on_duty, one_read, same_moment};
+ghost use Rattle.ucon_accept.specs.Checking.{IsCause, IsFirstWrong, all_read, are_duties, first_untrue, is_of_place, one_read, same_moment};
 ghost use Rattle.ucon_accept.specs.Checking.{tell_duty, tell_formula, tell_test, tell_tick, tells_act, tells_moment, tells_value, verdict_told};
-ghost use Rattle.ucon_accept.specs.Explanation.{explanation_of, factor_of, line, lines, lines_from, why_of};
+ghost use Rattle.ucon_accept.specs.Explanation.{explanation_of, line, lines, lines_from, why_of};
 ghost use Rattle.ucon_accept.specs.Facts.{test_facts};
 ghost use Rattle.ucon_accept.specs.Judged.{MayBeJudged};
 
 use crate::asks::{asks_tick, is_same_place, is_timed, name_or};
-use crate::explanation::{Explanation, Fact, Factor, Why, factor_of};
+use crate::explanation::{Explanation, Fact, Why};
 use crate::told::truth_told;
 use crate::worth::Worth;
 use ucon_base::{Int, Name, Value};
@@ -244,12 +244,6 @@ fn tell_test<V: View>(view: &V, session: u32, row: &SessionRow, facts: &[Fact], 
     }
 }
 
-fn is_same_factor(a: Factor, b: Factor) -> bool
-    ensures { IsTrue result ↔ (a ≡ b) }
-{
-    a == b
-}
-
 fn is_same_truth(told: bool, found: bool) -> bool
     ensures { IsTrue result ↔ (told ≡ found) }
 {
@@ -277,15 +271,6 @@ fn is_judged<V: View>(
     is_same_truth(told, truth_told(facts, test))
 }
 
-/// Whether a line is on the predicate with this number.
-fn is_on(why: &Why, pred: usize, p: &Predicate) -> bool
-    ensures { IsTrue result ↔ ((why.now.pred ≡ pred) × (why.now.label ≡ p.now.label) × (why.now.factor ≡ factor_of (test_of p.now.test))) }
-{
-    why.pred as usize == pred
-        && why.label == p.label
-        && is_same_factor(why.factor, factor_of(&p.test))
-}
-
 /// Whether a line is the right one on the predicate with this number.
 fn is_line<V: View>(
     view: &V,
@@ -300,7 +285,7 @@ fn is_line<V: View>(
     requires no_set { test_makes_no_set ((V.readings view.now).at row.now) (predicate_of p.now).test ≡ true }
     ensures { IsTrue result ↔ (why_of why.now ≡ line (V.readings view.now) row.now pred (predicate_of p.now)) }
 {
-    if !is_on(why, pred, p) {
+    if !why.is_on(pred, p) {
         return false;
     }
     is_judged(view, session, row, &p.test, why.reads.slice(), why.truth)
@@ -356,32 +341,45 @@ fn check_lines<V: View>(
     Ok(())
 }
 
-/// The label of the first line that says false, of those on obligations or of the others.
-fn first_untrue(duties: bool, whys: &[Why]) -> Option<Name>
-    ensures { result ≡ first_untrue duties (map why_of whys.now) }
+/// Which lines are asked: those on obligations, or the others.
+#[derive(Clone, Copy)]
+enum Asked {
+    Duties,
+    Others,
+}
+
+impl Asked {
+    fn are_duties(self) -> bool
+        ensures { result ≡ are_duties self }
+    {
+        match self {
+            Asked::Duties => true,
+            Asked::Others => false,
+        }
+    }
+}
+
+/// The label of the first line that says false, of those that are asked.
+fn first_untrue(asked: Asked, whys: &[Why]) -> Option<Name>
+    ensures { result ≡ first_untrue (are_duties asked) (map why_of whys.now) }
 {
+    let duties = asked.are_duties();
     for why in whys {
-        if duties == is_on_duty(why.factor) && !why.truth {
+        if duties == why.factor.is_duty() && !why.truth {
             return Some(why.label);
         }
     }
     None
 }
 
-fn is_on_duty(factor: Factor) -> bool
-    ensures { result ≡ is_on_duty factor }
-{
-    matches!(factor, Factor::Obligation)
-}
-
 /// The verdict that these lines lead to.
 fn verdict_told(whys: &[Why]) -> Verdict
     ensures { result ≡ verdict_told (map why_of whys.now) }
 {
-    if let Some(label) = first_untrue(false, whys) {
+    if let Some(label) = first_untrue(Asked::Others, whys) {
         return Verdict::Deny(label);
     }
-    match first_untrue(true, whys) {
+    match first_untrue(Asked::Duties, whys) {
         Some(label) => Verdict::Wait(label),
         None => Verdict::Permit,
     }

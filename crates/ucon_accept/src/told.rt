@@ -6,10 +6,9 @@ ghost use Rattle.ucon_model.specs.Truth.{holds, in_time, is_done, value_of};
 ghost use Rattle.ucon_model.specs.Views.{expr_of, formula_of, test_of};
 ghost use Rattle.ucon_model.specs.Asked.{no_session};
 ghost use Rattle.ucon_model.specs.Sums.{formula_makes_no_set, makes_no_set, test_makes_no_set};
-ghost use Rattle.ucon_accept.specs.Told.{moment_told, tick_told, told, truth_told, value_in, value_told};
+ghost use Rattle.ucon_accept.specs.Told.{moment_told, tick_told, told, truth_told, value_told};
 ghost use Rattle.ucon_accept.specs.Worth.{worth_value};
 
-use crate::asks::is_same_place;
 use crate::explanation::Fact;
 use crate::worth::Worth;
 use ucon_base::{Int, Value};
@@ -27,27 +26,11 @@ fn value_told<'a>(facts: &'a [Fact], place: &Ref) -> Option<&'a Value>
     ensures { option_copied result ≡ value_told facts.now place.now }
 {
     for fact in facts {
-        if let Some(value) = value_in(fact, place) {
+        if let Some(value) = fact.value_in(place) {
             return Some(value);
         }
     }
     None
-}
-
-/// What a fact says that a place holds, if it is of this place.
-fn value_in<'a>(fact: &'a Fact, place: &Ref) -> Option<&'a Value>
-    ensures { option_copied result ≡ value_in fact.now place.now }
-{
-    match fact {
-        Fact::Value { place: p, value } => {
-            if is_same_place(place, p) {
-                Some(value)
-            } else {
-                None
-            }
-        }
-        _ => None,
-    }
 }
 
 /// When the facts say that the act was last done.

@@ -14,7 +14,6 @@ ghost use Rattle.ucon_store.specs.Found.{IsFoundAs};
 ghost use Rattle.ucon_store.specs.declared.fault.StoreFault.TheVariants as faults;
 ghost use Rattle.ucon_syntax.specs.Policies.{accepted};
 
-use crate::chain::Chain;
 use crate::check::{Check, check_records};
 use crate::head::Kept;
 use crate::keeping::Keeping;
@@ -90,19 +89,9 @@ impl<E: Engine> Audited<E> {
             records: chain.records,
             entries,
             head: chain.head,
-            extends: told(&chain),
+            extends: chain.extends_kept(),
             engine,
         }
-    }
-}
-
-/// Whether the journal goes on from what was kept, if something was.
-fn told(chain: &Chain) -> Option<bool>
-    ensures { result ≡ option_map (λ _. chain.now.extends) chain.now.kept }
-{
-    match chain.kept {
-        Some(_) => Some(chain.extends),
-        None => None,
     }
 }
 

@@ -1,6 +1,6 @@
 //! The head of a journal's records, as they come one after the other.
 
-ghost use Rattle.std.specs.Prelude.{◌≡◌, ◌+◌, ◌<◌, ◌^◌, ◌∷◌, [], ◌++◌, List, ℕ, Option};
+ghost use Rattle.std.specs.Prelude.{◌≡◌, ◌+◌, ◌<◌, ◌^◌, ◌∷◌, [], ◌++◌, List, ℕ, Option, option_map};
 ghost use Rattle.ucon_audit.specs.declared.head.Kept.{Kept};
 ghost use Rattle.ucon_audit.specs.Head.{IsChain, is_kept};
 
@@ -45,6 +45,16 @@ impl Chain {
         self.records = records;
         self.head = head;
         self.extends = extends;
+    }
+
+    /// Whether the journal goes on from what was kept, if something was.
+    pub(crate) fn extends_kept(&self) -> Option<bool>
+        ensures { result ≡ option_map (λ _. self.now.extends) self.now.kept }
+    {
+        match self.kept {
+            Some(_) => Some(self.extends),
+            None => None,
+        }
     }
 }
 

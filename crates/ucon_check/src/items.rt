@@ -6,15 +6,13 @@ ghost use Rattle.std.specs.Str.{bytes_eq};
 ghost use Rattle.ucon_model.specs.Decision.{right_named};
 ghost use Rattle.ucon_model.specs.Readings.{declared_attr, declared_env};
 ghost use Rattle.ucon_model.specs.Views.{formula_of, test_of, predicate_of, update_of, right_of, policy_of};
-ghost use Rattle.ucon_model.specs.Typing.{name_if, has_lasts, is_recurring, counts_from_start, reads_wrongly, is_wrong_reader, item_fault};
+ghost use Rattle.ucon_model.specs.Typing.{has_lasts, is_recurring, counts_from_start, reads_wrongly, is_wrong_reader, item_fault};
 ghost use Rattle.ucon_model.specs.Typing.{attr_fault, env_fault, heading_fault, is_label_taken, predicate_fault, update_fault};
 ghost use Rattle.ucon_check.specs.Told.{Answers};
 
 use crate::CheckFault;
 use crate::sorts::{is_typed_start, is_typed_test, is_typed_update};
-use crate::sought::{
-    Sought, formula_reads, undeclared_in_test, undeclared_in_update, update_reads,
-};
+use crate::sought::{Sought, undeclared_in_test, undeclared_in_update};
 use ucon_base::{Name, Side};
 use ucon_model::{AttrDecl, EnvDecl, Form, Formula, Policy, Predicate, Right, Test, Update};
 
@@ -52,9 +50,9 @@ fn reads_wrongly(test: &Test) -> bool
     ensures { result ≡ reads_wrongly (test_of test.now) }
 {
     match test {
-        Test::Authorisation(f) => formula_reads(&Sought::Variable, f) || has_lasts(f),
+        Test::Authorisation(f) => Sought::Variable.is_in_formula(f) || has_lasts(f),
         Test::Obligation(_) => false,
-        Test::Condition(f) => formula_reads(&Sought::Attribute, f),
+        Test::Condition(f) => Sought::Attribute.is_in_formula(f),
     }
 }
 
@@ -65,35 +63,37 @@ fn is_wrong_reader(p: &Predicate) -> bool
     reads_wrongly(&p.test) || (!p.is_ongoing() && counts_from_start(&p.test))
 }
 
-fn name_if(stood: bool, name: &Name) -> Option<Name>
-    ensures { result ≡ name_if stood name.now }
-{
-    if stood { Some(*name) } else { None }
+/// What an item may be at fault for.
+#[derive(Clone, Copy)]
+struct Item {
+    number: u32,
+    /// Its name, if it stood before.
+    twice: Option<Name>,
+    /// A name in it that isn't declared.
+    unknown: Option<Name>,
+    is_wrong_reader: bool,
+    is_typed: bool,
 }
 
-/// The first of an item's four faults.
-fn check_item(
-    item: u32,
-    twice: Option<Name>,
-    unknown: Option<Name>,
-    wrong: bool,
-    typed: bool,
-) -> Result<(), CheckFault>
-    ensures { Answers (item_fault item twice unknown wrong typed) result }
-{
-    if let Some(name) = twice {
-        return Err(CheckFault::Twice(name, item));
+impl Item {
+    /// The first of its four faults.
+    fn check(&self) -> Result<(), CheckFault>
+        ensures { Answers (item_fault self.now.number self.now.twice self.now.unknown self.now.is_wrong_reader self.now.is_typed) result }
+    {
+        if let Some(name) = self.twice {
+            return Err(CheckFault::Twice(name, self.number));
+        }
+        if let Some(name) = self.unknown {
+            return Err(CheckFault::NoName(name, self.number));
+        }
+        if self.is_wrong_reader {
+            return Err(CheckFault::WrongReader(self.number));
+        }
+        if !self.is_typed {
+            return Err(CheckFault::WrongKind(self.number));
+        }
+        Ok(())
     }
-    if let Some(name) = unknown {
-        return Err(CheckFault::NoName(name, item));
-    }
-    if wrong {
-        return Err(CheckFault::WrongReader(item));
-    }
-    if !typed {
-        return Err(CheckFault::WrongKind(item));
-    }
-    Ok(())
 }
 
 /// Whether one of these attributes is of the side and has the name.
@@ -112,9 +112,14 @@ fn is_attr(before: &[AttrDecl], side: Side, name: &Name) -> bool
 pub fn check_attr(before: &[AttrDecl], item: u32, d: &AttrDecl) -> Result<(), CheckFault>
     ensures { Answers (attr_fault before.now item d.now) result }
 {
-    let stood = is_attr(before, d.side, &d.name);
-    let typed = is_typed_start(&d.kind, &d.start);
-    check_item(item, name_if(stood, &d.name), None, false, typed)
+    let found = Item {
+        number: item,
+        twice: is_attr(before, d.side, &d.name).then_some(d.name),
+        unknown: None,
+        is_wrong_reader: false,
+        is_typed: is_typed_start(&d.kind, &d.start),
+    };
+    found.check()
 }
 
 /// Whether one of these variables has the name.
@@ -133,9 +138,14 @@ fn is_env(before: &[EnvDecl], name: &Name) -> bool
 pub fn check_env(before: &[EnvDecl], item: u32, d: &EnvDecl) -> Result<(), CheckFault>
     ensures { Answers (env_fault before.now item d.now) result }
 {
-    let stood = is_env(before, &d.name);
-    let typed = is_typed_start(&d.kind, &d.start);
-    check_item(item, name_if(stood, &d.name), None, false, typed)
+    let found = Item {
+        number: item,
+        twice: is_env(before, &d.name).then_some(d.name),
+        unknown: None,
+        is_wrong_reader: false,
+        is_typed: is_typed_start(&d.kind, &d.start),
+    };
+    found.check()
 }
 
 /// Whether one of these rights has the name.
@@ -154,8 +164,14 @@ fn is_right(before: &[Right], name: &Name) -> bool
 pub fn check_heading(before: &[Right], item: u32, r: &Right) -> Result<(), CheckFault>
     ensures { Answers (heading_fault (map right_of before.now) item (right_of r.now)) result }
 {
-    let stood = is_right(before, &r.name);
-    check_item(item, name_if(stood, &r.name), None, false, true)
+    let found = Item {
+        number: item,
+        twice: is_right(before, &r.name).then_some(r.name),
+        unknown: None,
+        is_wrong_reader: false,
+        is_typed: true,
+    };
+    found.check()
 }
 
 fn is_label(preds: &[Predicate], label: &Name) -> bool
@@ -185,20 +201,26 @@ pub fn check_predicate(
     ensures { Answers (predicate_fault (policy_of policy.now) (map predicate_of before.now) item (predicate_of p.now)) result }
 {
     let taken = is_label(before, &p.label) || is_no_right(p.label.bytes());
-    check_item(
-        item,
-        name_if(taken, &p.label),
-        undeclared_in_test(policy, &p.test),
-        is_wrong_reader(p),
-        is_typed_test(policy, &p.test),
-    )
+    let found = Item {
+        number: item,
+        twice: taken.then_some(p.label),
+        unknown: undeclared_in_test(policy, &p.test),
+        is_wrong_reader: is_wrong_reader(p),
+        is_typed: is_typed_test(policy, &p.test),
+    };
+    found.check()
 }
 
 /// An update.
 pub fn check_update(policy: &Policy, item: u32, u: &Update) -> Result<(), CheckFault>
     ensures { Answers (update_fault (policy_of policy.now) [] item (update_of u.now)) result }
 {
-    let unknown = undeclared_in_update(policy, u);
-    let wrong = update_reads(&Sought::Variable, u);
-    check_item(item, None, unknown, wrong, is_typed_update(policy, u))
+    let found = Item {
+        number: item,
+        twice: None,
+        unknown: undeclared_in_update(policy, u),
+        is_wrong_reader: Sought::Variable.is_in_update(u),
+        is_typed: is_typed_update(policy, u),
+    };
+    found.check()
 }

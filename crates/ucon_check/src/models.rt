@@ -6,7 +6,7 @@ ghost use Rattle.ucon_model.specs.declared.core_model.Core.{Core};
 ghost use Rattle.ucon_model.specs.Checked.{checked_policy};
 ghost use Rattle.ucon_model.specs.Decision.{ongoing, is_duty};
 ghost use Rattle.ucon_model.specs.Views.{test_of, predicate_of, update_of, right_of};
-ghost use Rattle.ucon_model.specs.Cores.{is_authorisation, is_of_kind, may_update, updates_at, indices_by, indices, cores_of_kind, core_models_of};
+ghost use Rattle.ucon_model.specs.Cores.{is_authorisation, is_of_kind, may_update, updates_at, indices, cores_of_kind, core_models_of};
 ghost use Rattle.ucon_model.specs.Cores.{kind_name, core_name};
 
 use crate::cores::{has_update, is_condition};
@@ -69,16 +69,15 @@ fn updates_at(kind: CoreKind, updates: &[Update], when: When) -> bool
     may_update(kind, when) && has_update(updates, when)
 }
 
-/// Adds a kind's models where there are updates before, during and after a usage.
-fn put_indices(
-    kind: CoreKind,
-    before: bool,
-    during: bool,
-    after: bool,
-    cores: &mut Vec<Core>,
-) -> Result<(), NoMemory>
-    ensures { OnOk result (cores.new.items ≡ cores.old.items ++ map (λ i. record { kind = kind; index = i }) (indices_by before during after)) }
+/// Adds a kind's models, which are told apart by updates before, during and after a usage.
+fn put_indices(kind: CoreKind, updates: &[Update], cores: &mut Vec<Core>) -> Result<(), NoMemory>
+    ensures { OnOk result (cores.new.items
+        ≡ cores.old.items ++ map (λ i. record { kind = kind; index = i }) (indices kind (map update_of updates.now))) }
 {
+    let before = updates_at(kind, updates, When::Before);
+    let during = updates_at(kind, updates, When::During);
+    let after = updates_at(kind, updates, When::AfterEnd)
+        || updates_at(kind, updates, When::AfterRevoke);
     if !before && !during && !after {
         cores.push(Core { kind, index: 0 })?;
     }
@@ -101,14 +100,7 @@ fn put_kind(right: &Right, kind: CoreKind, cores: &mut Vec<Core>) -> Result<(), 
     if !has_kind(kind, right.preds.slice()) {
         return Ok(());
     }
-    let updates = right.updates.slice();
-    put_indices(
-        kind,
-        updates_at(kind, updates, When::Before),
-        updates_at(kind, updates, When::During),
-        updates_at(kind, updates, When::AfterEnd) || updates_at(kind, updates, When::AfterRevoke),
-        cores,
-    )
+    put_indices(kind, right.updates.slice(), cores)
 }
 
 /// The core models of a right, in the order preA, onA, preB, onB, preC, onC and by rising index.

@@ -6,6 +6,7 @@ ghost use Rattle.ucon_model.specs.Places.{attr_place};
 ghost use Rattle.ucon_model.specs.Views.{expr_of, formula_of, test_of, update_of, policy_of};
 ghost use Rattle.ucon_model.specs.Typing.{sort_of, value_sort, same_sort, is_of, are_of_one_sort, sum_sort, product_sort, size_sort, place_sort};
 ghost use Rattle.ucon_model.specs.Typing.{expr_sort, takes, is_typed_formula, is_typed_test, is_typed_update, is_range, is_typed_start};
+ghost use Rattle.ucon_check.specs.Within.{is_update};
 
 use ucon_base::{Kind, Name, Side, Value};
 use ucon_model::{Expr, Formula, Op, Policy, Ref, Sort, Test, Update};
@@ -60,12 +61,30 @@ fn are_of_one_sort(k: Option<Sort>, l: Option<Sort>) -> bool
     }
 }
 
-fn sum_sort(in_update: bool, k: Option<Sort>, l: Option<Sort>) -> Option<Sort>
-    ensures { result ≡ sum_sort in_update k l }
+/// Where an expression stands. Only in an update a set and a text have a sum.
+#[derive(Clone, Copy)]
+enum Within {
+    Formula,
+    Update,
+}
+
+impl Within {
+    fn is_update(self) -> bool
+        ensures { result ≡ is_update self }
+    {
+        match self {
+            Within::Formula => false,
+            Within::Update => true,
+        }
+    }
+}
+
+fn sum_sort(within: Within, k: Option<Sort>, l: Option<Sort>) -> Option<Sort>
+    ensures { result ≡ sum_sort (is_update within) k l }
 {
     if is_of(Sort::Integer, k) && is_of(Sort::Integer, l) {
         Some(Sort::Integer)
-    } else if in_update && is_of(Sort::Set, k) && is_of(Sort::Text, l) {
+    } else if within.is_update() && is_of(Sort::Set, k) && is_of(Sort::Text, l) {
         Some(Sort::Set)
     } else {
         None
@@ -116,27 +135,24 @@ pub fn place_sort(policy: &Policy, place: &Ref) -> Option<Sort>
 }
 
 /// The sort of an expression; None if it isn't typed.
-fn expr_sort(policy: &Policy, in_update: bool, e: &Expr) -> Option<Sort>
-    ensures { result ≡ expr_sort (policy_of policy.now) in_update (expr_of e.now) }
+fn expr_sort(policy: &Policy, within: Within, e: &Expr) -> Option<Sort>
+    ensures { result ≡ expr_sort (policy_of policy.now) (is_update within) (expr_of e.now) }
 {
     match e {
         Expr::Lit(v) => Some(value_sort(v)),
         Expr::Read(place) => place_sort(policy, place),
         Expr::Add(a, b) => sum_sort(
-            in_update,
-            expr_sort(policy, in_update, a),
-            expr_sort(policy, in_update, b),
+            within,
+            expr_sort(policy, within, a),
+            expr_sort(policy, within, b),
         ),
         Expr::Sub(a, b) => sum_sort(
-            in_update,
-            expr_sort(policy, in_update, a),
-            expr_sort(policy, in_update, b),
+            within,
+            expr_sort(policy, within, a),
+            expr_sort(policy, within, b),
         ),
-        Expr::Mul(a, b) => product_sort(
-            expr_sort(policy, in_update, a),
-            expr_sort(policy, in_update, b),
-        ),
-        Expr::Size(a) => size_sort(expr_sort(policy, in_update, a)),
+        Expr::Mul(a, b) => product_sort(expr_sort(policy, within, a), expr_sort(policy, within, b)),
+        Expr::Size(a) => size_sort(expr_sort(policy, within, a)),
     }
 }
 
@@ -164,8 +180,8 @@ fn is_typed_formula(policy: &Policy, f: &Formula) -> bool
         Formula::Not(f) => is_typed_formula(policy, f),
         Formula::Compare(op, a, b) => takes(
             *op,
-            expr_sort(policy, false, a),
-            expr_sort(policy, false, b),
+            expr_sort(policy, Within::Formula, a),
+            expr_sort(policy, Within::Formula, b),
         ),
         Formula::Lasts(_) => true,
     }
@@ -188,7 +204,7 @@ pub fn is_typed_update(policy: &Policy, u: &Update) -> bool
 {
     are_of_one_sort(
         attr_sort(policy, u.side, &u.attr),
-        expr_sort(policy, true, &u.value),
+        expr_sort(policy, Within::Update, &u.value),
     )
 }
 

@@ -42,61 +42,63 @@ fn is_variable(place: &Ref) -> bool
     matches!(place, Ref::Env(_))
 }
 
-fn fits(sought: &Sought, place: &Ref) -> bool
-    ensures { result ≡ fits sought.now place.now }
-{
-    match sought {
-        Sought::Variable => is_variable(place),
-        Sought::Attribute => !is_variable(place),
-        Sought::This(this) => same_place(this, place),
+impl Sought {
+    fn fits(&self, place: &Ref) -> bool
+        ensures { result ≡ fits self.now place.now }
+    {
+        match self {
+            Sought::Variable => is_variable(place),
+            Sought::Attribute => !is_variable(place),
+            Sought::This(this) => same_place(this, place),
+        }
     }
-}
 
-/// Whether an expression reads a place that is sought.
-#[tactic(auto, using(crate::proofs::Searches::any_of_one, crate::proofs::Searches::any_of_both))]
-fn expr_reads(sought: &Sought, e: &Expr) -> bool
-    ensures { result ≡ list_any (fits sought.now) (expr_places (expr_of e.now)) }
-{
-    match e {
-        Expr::Lit(_) => false,
-        Expr::Read(place) => fits(sought, place),
-        Expr::Add(a, b) => expr_reads(sought, a) || expr_reads(sought, b),
-        Expr::Sub(a, b) => expr_reads(sought, a) || expr_reads(sought, b),
-        Expr::Mul(a, b) => expr_reads(sought, a) || expr_reads(sought, b),
-        Expr::Size(a) => expr_reads(sought, a),
+    /// Whether an expression reads a place that is sought.
+    #[tactic(auto, using(crate::proofs::Searches::any_of_one, crate::proofs::Searches::any_of_both))]
+    fn is_in_expr(&self, e: &Expr) -> bool
+        ensures { result ≡ list_any (fits self.now) (expr_places (expr_of e.now)) }
+    {
+        match e {
+            Expr::Lit(_) => false,
+            Expr::Read(place) => self.fits(place),
+            Expr::Add(a, b) => self.is_in_expr(a) || self.is_in_expr(b),
+            Expr::Sub(a, b) => self.is_in_expr(a) || self.is_in_expr(b),
+            Expr::Mul(a, b) => self.is_in_expr(a) || self.is_in_expr(b),
+            Expr::Size(a) => self.is_in_expr(a),
+        }
     }
-}
 
-/// Whether a formula reads a place that is sought.
-#[tactic(auto, using(crate::proofs::Searches::any_of_both))]
-pub fn formula_reads(sought: &Sought, f: &Formula) -> bool
-    ensures { result ≡ list_any (fits sought.now) (formula_places (formula_of f.now)) }
-{
-    match f {
-        Formula::And(f, g) => formula_reads(sought, f) || formula_reads(sought, g),
-        Formula::Or(f, g) => formula_reads(sought, f) || formula_reads(sought, g),
-        Formula::Not(f) => formula_reads(sought, f),
-        Formula::Compare(_, a, b) => expr_reads(sought, a) || expr_reads(sought, b),
-        Formula::Lasts(_) => false,
+    /// Whether a formula reads a place that is sought.
+    #[tactic(auto, using(crate::proofs::Searches::any_of_both))]
+    pub fn is_in_formula(&self, f: &Formula) -> bool
+        ensures { result ≡ list_any (fits self.now) (formula_places (formula_of f.now)) }
+    {
+        match f {
+            Formula::And(f, g) => self.is_in_formula(f) || self.is_in_formula(g),
+            Formula::Or(f, g) => self.is_in_formula(f) || self.is_in_formula(g),
+            Formula::Not(f) => self.is_in_formula(f),
+            Formula::Compare(_, a, b) => self.is_in_expr(a) || self.is_in_expr(b),
+            Formula::Lasts(_) => false,
+        }
     }
-}
 
-/// Whether a test reads a place that is sought.
-fn test_reads(sought: &Sought, test: &Test) -> bool
-    ensures { result ≡ list_any (fits sought.now) (test_places (test_of test.now)) }
-{
-    match test {
-        Test::Authorisation(f) => formula_reads(sought, f),
-        Test::Obligation(_) => false,
-        Test::Condition(f) => formula_reads(sought, f),
+    /// Whether a test reads a place that is sought.
+    fn is_in_test(&self, test: &Test) -> bool
+        ensures { result ≡ list_any (fits self.now) (test_places (test_of test.now)) }
+    {
+        match test {
+            Test::Authorisation(f) => self.is_in_formula(f),
+            Test::Obligation(_) => false,
+            Test::Condition(f) => self.is_in_formula(f),
+        }
     }
-}
 
-/// Whether an update writes or reads a place that is sought.
-pub fn update_reads(sought: &Sought, u: &Update) -> bool
-    ensures { result ≡ list_any (fits sought.now) (update_places (update_of u.now)) }
-{
-    fits(sought, &attr_place(u.side, &u.attr)) || expr_reads(sought, &u.value)
+    /// Whether an update writes or reads a place that is sought.
+    pub fn is_in_update(&self, u: &Update) -> bool
+        ensures { result ≡ list_any (fits self.now) (update_places (update_of u.now)) }
+    {
+        self.fits(&attr_place(u.side, &u.attr)) || self.is_in_expr(&u.value)
+    }
 }
 
 /// The name of a place, if it isn't declared.
@@ -168,7 +170,7 @@ pub fn is_read(right: &Right, place: &Ref) -> bool
     ensures { result ≡ is_read (right_of right.now) place.now }
 {
     for p in right.preds.slice() {
-        if p.is_ongoing() && test_reads(&Sought::This(*place), &p.test) {
+        if p.is_ongoing() && Sought::This(*place).is_in_test(&p.test) {
             return true;
         }
     }

@@ -102,6 +102,21 @@ impl<T: Drop> Feeder<T> {
         }
         unreachable!()
     }
+
+    /// Ends the inbox. What was taken is the beginning of what was fed, and all of it if the end word was taken.
+    pub fn rejoin(self, taker: Taker<T>)
+        requires { taker.inbox ≡ self.inbox }
+        ensures beginning { (rest : List T) × (self.fed.lines ≡ taker.taken.lines ++ rest) }
+        ensures whole { taker.taken.ended ≡ true → self.fed ≡ taker.taken }
+    {
+        let Feeder { sender, mut pass } = self;
+        let Taker {
+            receiver: _,
+            pass: other,
+        } = taker;
+        sender.absorb::<Ends>(&mut pass, other);
+        sender.learn_as::<Total>(&mut pass);
+    }
 }
 
 impl<T: Drop> Taker<T> {
@@ -119,19 +134,4 @@ impl<T: Drop> Taker<T> {
         }
         unreachable!()
     }
-}
-
-/// What was taken is the beginning of what was fed, and all of it if the end word was taken.
-pub fn rejoin<T: Drop>(feeder: Feeder<T>, taker: Taker<T>)
-    requires { taker.inbox ≡ feeder.inbox }
-    ensures beginning { (rest : List T) × (feeder.fed.lines ≡ taker.taken.lines ++ rest) }
-    ensures whole { taker.taken.ended ≡ true → feeder.fed ≡ taker.taken }
-{
-    let Feeder { sender, mut pass } = feeder;
-    let Taker {
-        receiver: _,
-        pass: other,
-    } = taker;
-    sender.absorb::<Ends>(&mut pass, other);
-    sender.learn_as::<Total>(&mut pass);
 }

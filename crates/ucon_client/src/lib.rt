@@ -41,7 +41,7 @@ pub use answer::Answer;
 pub use boarded::{Boarded, SharedBase};
 pub use client::Client;
 pub use dividing::divide;
-pub use ends::{Feeder, Taker, inbox, rejoin};
+pub use ends::{Feeder, Taker, inbox};
 pub use feeding::feed;
 pub use gate::{Gate, OpenGate};
 pub use item::Item;

@@ -4,7 +4,7 @@ ghost use Rattle.std.specs.Prelude.{◌≡◌, ◌+◌, ◌++◌, ◌<◌, ◌�
 ghost use Rattle.ucon_model.specs.Limits.{most_clients};
 ghost use Rattle.ucon_turn.specs.Turns.{IsSeatOf};
 ghost use Rattle.ucon_store.specs.Events.{events_of};
-ghost use Rattle.ucon_client.specs.Answers.{IsAnswered, IsPart, Serves};
+ghost use Rattle.ucon_client.specs.Answers.{IsAnswered, Serves};
 ghost use Rattle.ucon_client.specs.Inbox.{nothing};
 ghost use Rattle.ucon_client.specs.Live.{HasTaken, Lives, as_of};
 
@@ -12,13 +12,12 @@ use crate::boarded::Boarded;
 use crate::client::Client;
 use crate::gate::Gate;
 use crate::part::Part;
-use crate::{Feeder, Item, Taker, rejoin};
+use crate::{Feeder, Item, Taker};
 use std::alloc::Global;
 use std::sync::Wait;
 use ucon_base::{NoMemory, Rows};
 use ucon_disk::Disk;
 use ucon_engine::Engine;
-use ucon_model::Caller;
 use ucon_script::Line;
 use ucon_turn::{Seat, Turn};
 
@@ -127,7 +126,7 @@ impl<E: Engine, D: Disk> LiveClient<E, D> {
             taker,
             short,
         } = self;
-        rejoin(feeder, taker);
+        feeder.rejoin(taker);
         (client, short)
     }
 }
@@ -152,7 +151,7 @@ fn answer<E: Engine, D: Disk, G: Gate, R: Wait>(
     ensures err { OnErr result (client.new.part.lines.items ≡ client.old.part.lines.items) }
 {
     let number = line.number;
-    match add_line(&mut client.part, line) {
+    match client.part.add_line(line) {
         Ok(()) => {}
         Err(want) => return Err(want),
     }
@@ -160,28 +159,4 @@ fn answer<E: Engine, D: Disk, G: Gate, R: Wait>(
     client.answer_next(rt, alloc, turn);
     gate.after(client.part.number, number);
     Ok(())
-}
-
-/// Adds a line to a client's part, as the client's, and makes room for its answer.
-fn add_line(part: &mut Part, line: Line) -> Result<(), NoMemory>
-    requires part { IsPart part.old }
-    requires answered { IsAnswered part.old }
-    ensures part { IsPart part.new }
-    ensures number { part.new.number ≡ part.old.number }
-    ensures answers { part.new.answers.items ≡ part.old.answers.items }
-    ensures ok { OnOk result (part.new.lines.items ≡ part.old.lines.items ++ as_of part.old.number line ∷ []) }
-    ensures err { OnErr result (part.new.lines.items ≡ part.old.lines.items) }
-{
-    match part.answers.reserve(1) {
-        Ok(()) => {}
-        Err(want) => return Err(want),
-    }
-    let line = Line {
-        caller: Caller(part.number),
-        ..line
-    };
-    match part.lines.push(line) {
-        Ok(()) => Ok(()),
-        Err((_, want)) => Err(want),
-    }
 }

@@ -1,13 +1,15 @@
 //! A client's part of a document.
 
-ghost use Rattle.std.specs.Prelude.{◌≡◌, ◌+◌, ◌<◌, ◌≤◌, ◌==◌, ◌∷◌, [], ◌++◌, length, IfOk, IfErr};
+ghost use Rattle.std.specs.Prelude.{◌≡◌, ◌+◌, ◌<◌, ◌≤◌, ◌==◌, ◌∷◌, [], ◌++◌, length, IfOk, IfErr, OnErr, OnOk};
 ghost use Rattle.ucon_base.specs.Elements.{Each};
-ghost use Rattle.ucon_client.specs.Answers.{IsPart, Keeps};
+ghost use Rattle.ucon_client.specs.Answers.{IsAnswered, IsPart, Keeps};
+ghost use Rattle.ucon_client.specs.Live.{as_of};
 ghost use Rattle.ucon_model.specs.Limits.{most_clients};
 
 use crate::answer::Answer;
 use std::alloc::Global;
 use ucon_base::{NoMemory, Rows};
+use ucon_model::Caller;
 use ucon_script::Line;
 
 /// One client's lines, and the answers to the first of them, with room for the others.
@@ -43,6 +45,30 @@ impl Part {
         ensures { result ≡ (length self.now.answers.items == length self.now.lines.items) }
     {
         self.answers.len() == self.lines.len()
+    }
+
+    /// Adds a line, as the client's, and makes room for its answer.
+    pub(crate) fn add_line(&mut self, line: Line) -> Result<(), NoMemory>
+        requires part { IsPart self.old }
+        requires answered { IsAnswered self.old }
+        ensures part { IsPart self.new }
+        ensures number { self.new.number ≡ self.old.number }
+        ensures answers { self.new.answers.items ≡ self.old.answers.items }
+        ensures ok { OnOk result (self.new.lines.items ≡ self.old.lines.items ++ as_of self.old.number line ∷ []) }
+        ensures err { OnErr result (self.new.lines.items ≡ self.old.lines.items) }
+    {
+        match self.answers.reserve(1) {
+            Ok(()) => {}
+            Err(want) => return Err(want),
+        }
+        let line = Line {
+            caller: Caller(self.number),
+            ..line
+        };
+        match self.lines.push(line) {
+            Ok(()) => Ok(()),
+            Err((_, want)) => Err(want),
+        }
     }
 
     /// Adds the answer to the next line.

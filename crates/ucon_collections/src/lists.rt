@@ -122,7 +122,7 @@ impl Lists {
     {
         self.changes.reserve(1)?;
         self.table.reach_leader(leader)?;
-        self.table.mark(leader, true);
+        self.table.open(leader);
         self.changes.push_reserved(Change::Founded(leader));
         Ok(())
     }
@@ -186,7 +186,7 @@ impl Lists {
         ensures changes { self.new.changes ≡ self.old.changes }
     {
         match change {
-            Change::Founded(leader) => self.table.mark(leader, false),
+            Change::Founded(leader) => self.table.shut(leader),
             Change::Joined(leader, session) => {
                 self.table.unlink(leader, session);
             }

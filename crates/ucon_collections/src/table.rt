@@ -149,12 +149,20 @@ impl Table {
         }
     }
 
-    /// From here on a list was joined, or it wasn't.
-    pub fn mark(&mut self, leader: u32, is_joined: bool)
+    /// From here on a list was joined.
+    pub fn open(&mut self, leader: u32)
         requires { leader < length self.old.ends.items }
-        ensures { seen self.new ≡ marked (seen self.old) leader is_joined }
+        ensures { seen self.new ≡ marked (seen self.old) leader true }
     {
-        self.ends[leader as usize].is_joined = is_joined;
+        self.ends[leader as usize].is_joined = true;
+    }
+
+    /// From here on a list wasn't joined: what undoes `open`.
+    pub fn shut(&mut self, leader: u32)
+        requires { leader < length self.old.ends.items }
+        ensures { seen self.new ≡ marked (seen self.old) leader false }
+    {
+        self.ends[leader as usize].is_joined = false;
     }
 
     /// The gap between members of a list in which a session that is in no list would stand.

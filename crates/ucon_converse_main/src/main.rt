@@ -16,7 +16,7 @@ use ucon_cascade::Monitor;
 use ucon_converse::{PolicyFrom, converse};
 use ucon_disk::FileDisk;
 use ucon_flow::{ReadSource, WriteSink};
-use ucon_outcome::{Outcome, report};
+use ucon_outcome::Outcome;
 use ucon_tell::SinkVoice;
 
 fn main(rt: HostRuntime) -> ExitCode {
@@ -32,7 +32,7 @@ fn main(rt: HostRuntime) -> ExitCode {
         }
         Err(outcome) => outcome,
     };
-    ExitCode::from(report(&outcome, &mut err))
+    ExitCode::from(outcome.report(&mut err))
 }
 
 /// What the program is asked.

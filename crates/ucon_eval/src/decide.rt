@@ -22,15 +22,17 @@ enum Sort {
     Ongoing,
 }
 
-fn is_of(sort: Sort, p: &Predicate) -> bool
-    ensures { result ≡ sort_of sort (predicate_of p.now) }
-{
-    match (sort, p.phase, &p.test) {
-        (Sort::Ongoing, Phase::Ongoing, _) => true,
-        (Sort::PreDuty, Phase::Pre, Test::Obligation(_)) => true,
-        (Sort::PreCheck, Phase::Pre, Test::Authorisation(_)) => true,
-        (Sort::PreCheck, Phase::Pre, Test::Condition(_)) => true,
-        _ => false,
+impl Sort {
+    fn asks(self, p: &Predicate) -> bool
+        ensures { result ≡ sort_of self (predicate_of p.now) }
+    {
+        match (self, p.phase, &p.test) {
+            (Sort::Ongoing, Phase::Ongoing, _) => true,
+            (Sort::PreDuty, Phase::Pre, Test::Obligation(_)) => true,
+            (Sort::PreCheck, Phase::Pre, Test::Authorisation(_)) => true,
+            (Sort::PreCheck, Phase::Pre, Test::Condition(_)) => true,
+            _ => false,
+        }
     }
 }
 
@@ -42,7 +44,7 @@ fn first_false<V: View>(view: &V, session: u32, sort: Sort, preds: &[Predicate])
     ensures { result ≡ first_false (V.readings view.now) (row_at (V.readings view.now) session) (sort_of sort) (map predicate_of preds.now) }
 {
     for p in preds {
-        if is_of(sort, p) && !is_true(view, session, &p.test) {
+        if sort.asks(p) && !is_true(view, session, &p.test) {
             return Some(p.label);
         }
     }

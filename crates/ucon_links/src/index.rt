@@ -9,7 +9,6 @@ ghost use Rattle.ucon_links.specs.Dependents.{unhide, forget_hidden, remove, hid
 
 use crate::laws::nodes_stand_where_listed;
 use crate::links::{Links, NodeId};
-use crate::newest::{last_hidden, unhide_newest};
 use std::alloc::Global;
 use std::marker::Model;
 use ucon_base::NoMemory;
@@ -168,12 +167,12 @@ impl Index {
         ensures stands { (place session : ℕ) → Contains (stands_in self.new place) session
             ↔ (Contains (stands_in self.old place) session ⊎ IsNextBack self.old place session) }
     {
-        let Some(session) = last_hidden(&self.places) else {
+        let Some(session) = self.places.last_hidden() else {
             return;
         };
-        while last_hidden(&self.places) == Some(session) {
-            unhide_newest(&mut self.places);
-            unhide_newest(&mut self.sessions);
+        while self.places.last_hidden() == Some(session) {
+            self.places.unhide_newest();
+            self.sessions.unhide_newest();
         }
     }
 
@@ -203,7 +202,7 @@ impl Index {
         requires { (before : Dependents) × UnhideGives (length self.old.hidden) self.old before }
         ensures { (before : Dependents) → UnhideGives (length self.old.hidden) self.old before → self.new ≡ before }
     {
-        while last_hidden(&self.places).is_some() {
+        while self.places.last_hidden().is_some() {
             self.unhide_last();
         }
     }

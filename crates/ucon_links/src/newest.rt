@@ -6,22 +6,24 @@ ghost use Rattle.ucon_links.specs.Tables.{newest_owner, CanUnhideNewest};
 
 use crate::links::Links;
 
-/// The owner of the node that was hidden last.
-pub fn last_hidden(links: &Links) -> Option<u32>
-    ensures { result ≡ newest_owner links.now.hidden }
-{
-    let node = links.newest_hidden()?;
-    Some(links.owner(node))
-}
+impl Links {
+    /// The owner of the node that was hidden last.
+    pub(crate) fn last_hidden(&self) -> Option<u32>
+        ensures { result ≡ newest_owner self.now.hidden }
+    {
+        let node = self.newest_hidden()?;
+        Some(self.owner(node))
+    }
 
-/// Puts the node that was hidden last back where it was.
-pub fn unhide_newest(links: &mut Links)
-    requires { CanUnhideNewest links.old.lists links.old.hidden }
-    ensures back { links.new ≡ unhide links.old }
-    ensures distinct { IsDistinct (nodes_of links.old) }
-{
-    let Some(node) = links.newest_hidden() else {
-        unreachable!();
-    };
-    links.unhide(node);
+    /// Puts the node that was hidden last back where it was.
+    pub(crate) fn unhide_newest(&mut self)
+        requires { CanUnhideNewest self.old.lists self.old.hidden }
+        ensures back { self.new ≡ unhide self.old }
+        ensures distinct { IsDistinct (nodes_of self.old) }
+    {
+        let Some(node) = self.newest_hidden() else {
+            unreachable!();
+        };
+        self.unhide(node);
+    }
 }

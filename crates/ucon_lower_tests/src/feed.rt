@@ -4,7 +4,7 @@ ghost use Rattle.std.specs.Prelude.{◌≡◌, false};
 use std::sync::Wait;
 use std::test::Fail;
 use std::thread::join;
-use ucon_client::{Feeder, Item, Taker, inbox, rejoin};
+use ucon_client::{Feeder, Item, Taker, inbox};
 
 #[test]
 fn an_inbox_gives_what_was_fed_and_then_the_end_word(rt: HostRuntime) -> Result<(), Fail> {
@@ -13,7 +13,7 @@ fn an_inbox_gives_what_was_fed_and_then_the_end_word(rt: HostRuntime) -> Result<
     feeder.end(&rt);
     assert!(rt; matches!(taker.take(&rt), Item::Line(7)));
     assert!(rt; matches!(taker.take(&rt), Item::End));
-    rejoin(feeder, taker);
+    feeder.rejoin(taker);
     Ok(())
 }
 
@@ -59,6 +59,6 @@ fn lines_cross_in_order_between_two_threads(rt: HostRuntime) -> Result<(), Fail>
         { take_rising(rt_of, taker) },
     );
     assert!(rt; count == 10_000);
-    rejoin(feeder, taker);
+    feeder.rejoin(taker);
     Ok(())
 }

@@ -15,4 +15,3 @@ mod reporting;
 
 pub use outcome::{Ended, Outcome, PolicyFault, Refused};
 pub use printing::put_point_line;
-pub use reporting::report;

@@ -11,15 +11,16 @@ use crate::outcome::Outcome;
 use crate::printing::put_fault;
 use ucon_flow::Sink;
 
-/// Writes the line of an outcome, nothing if all is done, or a front of it if the sink fails, and gives the status with which the
-/// program ends.
-pub fn report<W: Sink>(outcome: &Outcome, err: &mut W) -> u8
-    ensures status { result ≡ status_of outcome.now }
-    ensures told { (Appends (W.seen err.old).contents (W.seen err.new).contents (fault_words outcome.now)
-        × ((W.seen err.new).faults ≡ (W.seen err.old).faults))
-        ⊎ (AppendsPrefix (W.seen err.old).contents (W.seen err.new).contents (fault_words outcome.now)
-        × ((W.seen err.new).faults ≡ raised (W.seen err.old).faults)) }
-{
-    let _ = put_fault(err, outcome);
-    outcome.status()
+impl Outcome {
+    /// Writes its line, nothing if all is done, or a front of it if the sink fails, and gives the status with which the program ends.
+    pub fn report<W: Sink>(&self, err: &mut W) -> u8
+        ensures status { result ≡ status_of self.now }
+        ensures told { (Appends (W.seen err.old).contents (W.seen err.new).contents (fault_words self.now)
+            × ((W.seen err.new).faults ≡ (W.seen err.old).faults))
+            ⊎ (AppendsPrefix (W.seen err.old).contents (W.seen err.new).contents (fault_words self.now)
+            × ((W.seen err.new).faults ≡ raised (W.seen err.old).faults)) }
+    {
+        let _ = put_fault(err, self);
+        self.status()
+    }
 }

@@ -4,6 +4,7 @@ ghost use Rattle.std.specs.Prelude.{◌≡◌, ◌+◌, ◌<◌, ◌^◌, filter
 ghost use Rattle.ucon_model.specs.Readings.{same_side};
 ghost use Rattle.ucon_model.specs.Views.{policy_of};
 ghost use Rattle.ucon_point.specs.Order.{after, attribute_place, awaited, beginning, rank, stage_of, variable_place, with_row, with_value};
+ghost use Rattle.ucon_point.specs.Standing.{side_of};
 
 use crate::row::Row;
 use ucon_base::{Kind, Name, Side, Value};
@@ -17,6 +18,40 @@ pub enum Stage {
     Objects,
     Acts,
     Sessions,
+}
+
+impl Stage {
+    /// The sort of a side's entities.
+    fn of(side: Side) -> Stage
+        ensures { result ≡ stage_of side }
+    {
+        match side {
+            Side::Subject => Stage::Subjects,
+            Side::Object => Stage::Objects,
+        }
+    }
+
+    /// The side of which attributes come.
+    pub(crate) fn side(self) -> Side
+        ensures { result ≡ side_of self }
+    {
+        match self {
+            Stage::Objects => Side::Object,
+            _ => Side::Subject,
+        }
+    }
+
+    fn rank(self) -> u8
+        ensures { result ≡ rank self }
+    {
+        match self {
+            Stage::Variables => 0,
+            Stage::Subjects => 1,
+            Stage::Objects => 2,
+            Stage::Acts => 3,
+            Stage::Sessions => 4,
+        }
+    }
 }
 
 /// How far the rows have come.
@@ -51,7 +86,7 @@ pub fn after(policy: &Policy, reached: Reached, row: &Row) -> Option<Reached>
             with_value(awaited, reached, name, value)
         }
         Row::Variable(..) | Row::Attribute(..) => None,
-        Row::Entity(side, _) => with_row(awaited, reached, stage_of(*side)),
+        Row::Entity(side, _) => with_row(awaited, reached, Stage::of(*side)),
         Row::Act { .. } => with_row(awaited, reached, Stage::Acts),
         Row::Session(_) => with_row(awaited, reached, Stage::Sessions),
     }
@@ -117,30 +152,9 @@ fn with_value(
 fn with_row(awaited: Option<(Name, Kind)>, reached: Reached, stage: Stage) -> Option<Reached>
     ensures { result ≡ with_row awaited reached stage }
 {
-    if awaited.is_none() && rank(reached.stage) <= rank(stage) {
+    if awaited.is_none() && reached.stage.rank() <= stage.rank() {
         Some(Reached { stage, values: 0 })
     } else {
         None
-    }
-}
-
-fn stage_of(side: Side) -> Stage
-    ensures { result ≡ stage_of side }
-{
-    match side {
-        Side::Subject => Stage::Subjects,
-        Side::Object => Stage::Objects,
-    }
-}
-
-fn rank(stage: Stage) -> u8
-    ensures { result ≡ rank stage }
-{
-    match stage {
-        Stage::Variables => 0,
-        Stage::Subjects => 1,
-        Stage::Objects => 2,
-        Stage::Acts => 3,
-        Stage::Sessions => 4,
     }
 }

@@ -4,7 +4,7 @@ ghost use Rattle.std.specs.Prelude.{◌≡◌, ◌≢◌, ◌<◌, length, true,
 ghost use Rattle.std.specs.Option.{option_map_or};
 ghost use Rattle.ucon_model.specs.Action as actions;
 ghost use Rattle.ucon_model.specs.Fitting.{AttributeAdmits, VariableAdmits};
-ghost use Rattle.ucon_point.specs.Standing.{Fits, last_cell, may_put, may_put_act, may_put_entity, may_put_session, side_of, with_put};
+ghost use Rattle.ucon_point.specs.Standing.{Fits, last_cell, may_put, may_put_act, may_put_entity, may_put_session, with_put};
 ghost use Rattle.ucon_state.specs.Applied.{applied, with_cell, with_entity, with_new_session};
 ghost use Rattle.ucon_state.specs.Putting.{with_act_row};
 ghost use Rattle.ucon_state.specs.Shown.{changed_to, shown};
@@ -28,7 +28,7 @@ pub fn put_row(state: &mut State, stage: Stage, row: Row) -> Result<bool, NoMemo
     match row {
         Row::Variable(name, value) => put_variable(state, &name, value),
         Row::Entity(side, name) => put_entity(state, side, name),
-        Row::Attribute(attr, value) => put_attribute(state, side_of(stage), &attr, value),
+        Row::Attribute(attr, value) => put_attribute(state, stage.side(), &attr, value),
         Row::Act {
             subject,
             action,
@@ -44,16 +44,6 @@ pub fn put_row(state: &mut State, stage: Stage, row: Row) -> Result<bool, NoMemo
             },
         ),
         Row::Session(session) => put_session(state, session),
-    }
-}
-
-/// The side of which attributes come.
-fn side_of(stage: Stage) -> Side
-    ensures { result ≡ side_of stage }
-{
-    match stage {
-        Stage::Objects => Side::Object,
-        _ => Side::Subject,
     }
 }
 

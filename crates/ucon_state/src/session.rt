@@ -1,5 +1,8 @@
 //! What is kept of a session.
 
+ghost use Rattle.std.specs.Prelude.{◌≡◌};
+ghost use Rattle.ucon_state.specs.Stored.{accessing_in};
+
 use ucon_base::Int;
 use ucon_model::{Caller, SessionState};
 
@@ -13,4 +16,16 @@ pub struct Session {
     pub object: u32,
     /// 0 until it is permitted.
     pub start: Int,
+}
+
+impl Session {
+    /// 1 if it is accessing, and else 0.
+    pub(crate) fn accessing(&self) -> usize
+        ensures { result ≡ accessing_in self.now }
+    {
+        match self.state {
+            SessionState::Accessing => 1,
+            _ => 0,
+        }
+    }
 }

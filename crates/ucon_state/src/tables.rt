@@ -1,7 +1,7 @@
 //! The tables: what is there now.
 
 ghost use Rattle.std.specs.Prelude.{◌≡◌, ◌-◌, ◌<◌, IfOk, OnOk, OnErr, IfSome, Some, None, slice_get, slice_set, option_copied, option_map, length};
-ghost use Rattle.ucon_state.specs.Stored.{accessing_in, accessing_of};
+ghost use Rattle.ucon_state.specs.Stored.{accessing_of};
 
 use crate::act::Act;
 use crate::change::Change;
@@ -220,7 +220,7 @@ impl Tables {
         ensures err { OnErr result (lists_of self.new ≡ lists_of self.old) }
     {
         self.sessions.push(session)?;
-        self.accessing += accessing_in(&session);
+        self.accessing += session.accessing();
         Ok(Change::Session)
     }
 
@@ -238,7 +238,7 @@ impl Tables {
             ..before
         };
         self.sessions[position] = session;
-        self.accessing = self.accessing - accessing_in(&before) + accessing_in(&session);
+        self.accessing = self.accessing - before.accessing() + session.accessing();
         Change::Moved(position, before.state, before.start)
     }
 
@@ -294,18 +294,8 @@ impl Tables {
         ensures { lists_of self.new ≡ undone Change.Session (lists_of self.old) }
     {
         if let Some(session) = self.sessions.pop() {
-            self.accessing -= accessing_in(&session);
+            self.accessing -= session.accessing();
         }
-    }
-}
-
-/// 1 for a session that is accessing.
-fn accessing_in(session: &Session) -> usize
-    ensures { result ≡ accessing_in session.now }
-{
-    match session.state {
-        SessionState::Accessing => 1,
-        _ => 0,
     }
 }
 

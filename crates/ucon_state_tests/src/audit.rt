@@ -151,19 +151,21 @@ struct Found {
     last: Changed,
 }
 
-/// An error with the name of what is wanted, unless the threads found this and the plain loop the same.
-fn is_found(
-    wanted: &Found,
-    sessions: usize,
-    changed: &[Changed],
-    plain: &[Changed],
-) -> Result<(), Fail> {
-    let is_counted = sessions == wanted.sessions && changed.len() == wanted.changed;
-    let is_first = changed.first() == Some(&wanted.first);
-    if is_counted && is_first && changed.last() == Some(&wanted.last) && changed == plain {
-        return Ok(());
+impl Found {
+    /// An error with its name, unless the threads found this and the plain loop the same.
+    fn is_found(
+        &self,
+        sessions: usize,
+        changed: &[Changed],
+        plain: &[Changed],
+    ) -> Result<(), Fail> {
+        let is_counted = sessions == self.sessions && changed.len() == self.changed;
+        let is_first = changed.first() == Some(&self.first);
+        if is_counted && is_first && changed.last() == Some(&self.last) && changed == plain {
+            return Ok(());
+        }
+        Err(self.name.into())
     }
-    Err(wanted.name.into())
 }
 
 /// Whether this is found of all sessions.
@@ -178,7 +180,7 @@ fn is_found_of_all<R: Threads + Sync>(
     let sessions = sessions_there(alloc, state, 10_000)?;
     let changed = changed_sessions(rt, alloc, state, &sessions)?;
     let plain = found_in_turn(alloc, state, &sessions)?;
-    is_found(wanted, sessions.len(), changed.slice(), plain.as_slice())
+    wanted.is_found(sessions.len(), changed.slice(), plain.as_slice())
 }
 
 /// Whether this is found of the uses that go on.
@@ -193,7 +195,7 @@ fn is_found_of_usages<R: Threads + Sync>(
     let sessions = usages(alloc, state)?;
     let changed = changed_usages(rt, alloc, state)?;
     let plain = found_in_turn(alloc, state, sessions.slice())?;
-    is_found(wanted, sessions.len(), changed.slice(), plain.as_slice())
+    wanted.is_found(sessions.len(), changed.slice(), plain.as_slice())
 }
 
 /// Of each ten sessions the first and the sixth are denied, four of the others wait, and four are permitted. Who waits has no use that goes on.

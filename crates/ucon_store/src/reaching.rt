@@ -14,27 +14,29 @@ use crate::walking::LastPoint;
 use ucon_disk::Disk;
 use ucon_journal::{Journal, MAX_PAYLOAD};
 
-/// Takes the last checkpoint of a journal of which record 0 was taken, as a walk has found it. It goes straight there.
-pub fn take_point<D: Disk>(last: LastPoint, journal: &mut Journal<D>) -> Result<(), RecordFault>
-    requires reading { IsReading D.seen journal.old }
-    requires upto { IfSome (D.seen (disk_of journal.old)).contents (λ file. (p : Parted) × IsUpTo last p 1 (gate_of journal.old) file) }
-    requires below { IsPlacedBelow (2 ^ 63) last }
-    ensures taken { OnOk result (IfSome (D.seen (disk_of journal.old)).contents (λ file. (p : Parted)
-        → IsUpTo last p 1 (gate_of journal.old) file → IsTaken last p (payload_of journal.new) (gate_of journal.new) file)) }
-    ensures short { OnOk result (length (payload_of journal.new) ≤ MAX_PAYLOAD) }
-    ensures small { OnOk result (5 * (last.number + 1) ≤ gate_of journal.new) }
-    ensures unpassed { IfErr result (λ fault.
-        IsUnpassed fault (D.seen (disk_of journal.old)).contents (D.seen (disk_of journal.old)).faults (D.seen (disk_of journal.new)).faults) }
-    ensures reading { IsReading D.seen journal.new }
-    ensures version { version_of journal.new ≡ version_of journal.old }
-    ensures contents { (D.seen (disk_of journal.new)).contents ≡ (D.seen (disk_of journal.old)).contents }
-    ensures images { SameImages (D.seen (disk_of journal.old)).images (D.seen (disk_of journal.new)).images }
-    ensures run { LeavesOnly (D.seen (disk_of journal.old)) (D.seen (disk_of journal.new)) (D.seen (disk_of journal.old)).images }
-    ensures unfailed { OnOk result ((D.seen (disk_of journal.new)).faults ≡ (D.seen (disk_of journal.old)).faults) }
-{
-    journal.go_to(last.place);
-    pass(last.number, journal)?;
-    Ok(())
+impl LastPoint {
+    /// Takes the last checkpoint of a journal of which record 0 was taken, as a walk has found it. It goes straight there.
+    pub(crate) fn take_from<D: Disk>(self, journal: &mut Journal<D>) -> Result<(), RecordFault>
+        requires reading { IsReading D.seen journal.old }
+        requires upto { IfSome (D.seen (disk_of journal.old)).contents (λ file. (p : Parted) × IsUpTo self p 1 (gate_of journal.old) file) }
+        requires below { IsPlacedBelow (2 ^ 63) self }
+        ensures taken { OnOk result (IfSome (D.seen (disk_of journal.old)).contents (λ file. (p : Parted)
+            → IsUpTo self p 1 (gate_of journal.old) file → IsTaken self p (payload_of journal.new) (gate_of journal.new) file)) }
+        ensures short { OnOk result (length (payload_of journal.new) ≤ MAX_PAYLOAD) }
+        ensures small { OnOk result (5 * (self.number + 1) ≤ gate_of journal.new) }
+        ensures unpassed { IfErr result (λ fault.
+            IsUnpassed fault (D.seen (disk_of journal.old)).contents (D.seen (disk_of journal.old)).faults (D.seen (disk_of journal.new)).faults) }
+        ensures reading { IsReading D.seen journal.new }
+        ensures version { version_of journal.new ≡ version_of journal.old }
+        ensures contents { (D.seen (disk_of journal.new)).contents ≡ (D.seen (disk_of journal.old)).contents }
+        ensures images { SameImages (D.seen (disk_of journal.old)).images (D.seen (disk_of journal.new)).images }
+        ensures run { LeavesOnly (D.seen (disk_of journal.old)) (D.seen (disk_of journal.new)) (D.seen (disk_of journal.old)).images }
+        ensures unfailed { OnOk result ((D.seen (disk_of journal.new)).faults ≡ (D.seen (disk_of journal.old)).faults) }
+    {
+        journal.go_to(self.place);
+        pass(self.number, journal)?;
+        Ok(())
+    }
 }
 
 /// Passes the record of this number, which a walk has passed already.

@@ -20,7 +20,6 @@ use crate::entries::Entries;
 use crate::fault::StoreFault;
 use crate::in_force::InForce;
 use crate::loading::Loaded;
-use crate::reaching::take_point;
 use crate::restoring::take_up;
 use crate::walking::LastPoint;
 use std::alloc::Global;
@@ -121,7 +120,7 @@ fn start_behind<E: Engine, D: Disk>(
             place: FIRST_GATE,
         });
     }
-    take_point(last, journal)?;
+    last.take_from(journal)?;
     let Some(restored) = take_up(alloc, last.entries, journal.payload())? else {
         return Err(StoreFault::Damaged {
             number: last.number,

@@ -20,6 +20,19 @@ pub enum Joint {
     Sign,
 }
 
+impl Joint {
+    /// Whether the token joins one more operand.
+    #[tactic(auto, unfolding(crate::specs::Expressions::goes_on))]
+    fn goes_on(self, token: &Token) -> bool
+        ensures { result ≡ goes_on self (token_of token.now) }
+    {
+        match self {
+            Joint::Star => token.is_symbol(Symbol::Star),
+            Joint::Sign => sum_sign(token).is_some(),
+        }
+    }
+}
+
 /// The `.` and the name of a place, behind the word that stands here.
 #[tactic(auto, unfolding(crate::specs::Expressions::place_at))]
 pub fn place(reader: &mut Reader) -> Result<Name, Stop>
@@ -107,17 +120,6 @@ fn joined(sign: Option<SumSign>, left: Box<Expr>, right: Box<Expr>) -> Expr
     }
 }
 
-/// Whether the token joins one more operand.
-#[tactic(auto, unfolding(crate::specs::Expressions::goes_on))]
-fn goes_on(token: &Token, joint: Joint) -> bool
-    ensures { result ≡ goes_on joint (token_of token.now) }
-{
-    match joint {
-        Joint::Star => token.is_symbol(Symbol::Star),
-        Joint::Sign => sum_sign(token).is_some(),
-    }
-}
-
 /// One operand of a chain.
 #[tactic(auto, using(crate::proofs::Joints::chain_of_star), unfolding(crate::specs::Expressions::operand_at))]
 #[cycle(expr)]
@@ -153,12 +155,12 @@ fn chain(reader: &mut Reader, room: usize, joint: Joint) -> Result<Expr, Stop>
 {
     let mut all = operand(reader, room, joint)?;
     for _ in 1..MOST_OPERANDS {
-        if !goes_on(reader.first(), joint) {
+        if !joint.goes_on(reader.first()) {
             return Ok(all);
         }
         all = longer(reader, room, joint, all)?;
     }
-    ended(all, goes_on(reader.first(), joint))
+    ended(all, joint.goes_on(reader.first()))
 }
 
 /// The expression that begins here, with so many levels below it.

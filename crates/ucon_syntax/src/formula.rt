@@ -22,6 +22,35 @@ pub enum Joint {
     Or,
 }
 
+impl Joint {
+    fn join(self, left: Box<Formula>, right: Box<Formula>) -> Formula
+        ensures { formula_of result ≡ joined self (formula_of left.value) (formula_of right.value) }
+    {
+        match self {
+            Joint::And => Formula::And(left, right),
+            Joint::Or => Formula::Or(left, right),
+        }
+    }
+
+    /// The word between two operands.
+    #[tactic(auto, unfolding(crate::specs::Formulas::word_of))]
+    fn word(self) -> &'static [u8]
+        ensures { result.now ≡ word_of self }
+    {
+        match self {
+            Joint::And => b"and",
+            Joint::Or => b"or",
+        }
+    }
+
+    /// Whether the token would join one operand too many, also directly behind a number.
+    fn is_late(self, token: &Token) -> bool
+        ensures { result ≡ is_late (word_of self) (token_of token.now) }
+    {
+        token.is_word(self.word()) || token.is_joined(self.word())
+    }
+}
+
 fn op(reader: &mut Reader) -> Result<Op, Stop>
     ensures read { Gives (λ o. (o, reader.new.tokens)) result reader.new.tokens (taken (op_of (first reader.old.tokens)) reader.old.tokens) }
     ensures text { reader.new.text ≡ reader.old.text }
@@ -44,15 +73,6 @@ fn compare(reader: &mut Reader, room: usize) -> Result<Formula, Stop>
     let op = op(reader)?;
     let right = read_expr(reader, room)?;
     Ok(Formula::Compare(op, left, right))
-}
-
-fn joined(joint: Joint, left: Box<Formula>, right: Box<Formula>) -> Formula
-    ensures { formula_of result ≡ joined joint (formula_of left.value) (formula_of right.value) }
-{
-    match joint {
-        Joint::And => Formula::And(left, right),
-        Joint::Or => Formula::Or(left, right),
-    }
 }
 
 #[tactic(auto, using(crate::proofs::Levels::unit_level_none, crate::proofs::Levels::unit_level_some, crate::proofs::Levels::square_is), unfolding(crate::specs::Formulas::unit_at, crate::specs::Formulas::not_at))]
@@ -107,24 +127,6 @@ fn square(reader: &mut Reader, room: usize) -> Result<Formula, Stop>
     closed(reader, f, Symbol::CloseSquare)
 }
 
-/// The word between two operands.
-#[tactic(auto, unfolding(crate::specs::Formulas::word_of))]
-fn word(joint: Joint) -> &'static [u8]
-    ensures { result.now ≡ word_of joint }
-{
-    match joint {
-        Joint::And => b"and",
-        Joint::Or => b"or",
-    }
-}
-
-/// Whether the token would join one operand too many, also directly behind a number.
-fn is_late(token: &Token, joint: Joint) -> bool
-    ensures { result ≡ is_late (word_of joint) (token_of token.now) }
-{
-    token.is_word(word(joint)) || token.is_joined(word(joint))
-}
-
 /// One operand of a chain.
 #[tactic(auto, using(crate::proofs::Joints::chain_of_and), unfolding(crate::specs::Formulas::operand_at))]
 #[cycle(formula)]
@@ -147,7 +149,7 @@ fn longer(reader: &mut Reader, room: usize, joint: Joint, left: Formula) -> Resu
     reader.advance();
     let left = Box::new(reader.alloc, left)?;
     let right = Box::new(reader.alloc, operand(reader, room, joint)?)?;
-    Ok(joined(joint, left, right))
+    Ok(joint.join(left, right))
 }
 
 /// Operands joined alike.
@@ -159,12 +161,12 @@ fn chain(reader: &mut Reader, room: usize, joint: Joint) -> Result<Formula, Stop
 {
     let mut all = operand(reader, room, joint)?;
     for _ in 1..MOST_OPERANDS {
-        if !reader.first().is_word(word(joint)) {
+        if !reader.first().is_word(joint.word()) {
             return Ok(all);
         }
         all = longer(reader, room, joint, all)?;
     }
-    ended(all, is_late(reader.first(), joint))
+    ended(all, joint.is_late(reader.first()))
 }
 
 /// The formula that begins here, with so many levels below it.

@@ -19,7 +19,7 @@ fn is_blank(b: u8) -> bool
 
 /// What is left behind blanks and comments.
 #[tactic(auto, unfolding(ucon_base::specs::Tokens::skip))]
-fn skip(bytes: &[u8]) -> &[u8]
+pub fn skip(bytes: &[u8]) -> &[u8]
     ensures { result.now ≡ skip false bytes.now }
 {
     let mut inside = false;
@@ -233,8 +233,9 @@ fn symbol_token(first: u8, rest: &[u8]) -> (Token, &[u8])
     }
 }
 
+/// The token that begins here, behind no number, and what is left behind it.
 #[tactic(auto, unfolding(ucon_base::specs::Tokens::token_at))]
-fn token_at(bytes: &[u8]) -> (Token, &[u8])
+pub fn token_at(bytes: &[u8]) -> (Token, &[u8])
     ensures { (token_of result.0, result.1.now) ≡ token_at bytes.now }
 {
     match bytes {

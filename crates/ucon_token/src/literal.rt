@@ -6,7 +6,6 @@ ghost use Rattle.ucon_token.specs.Reading.{Gives};
 ghost use Rattle.ucon_token.specs.Literals.{symbol_literal, literal_start, negative_at, int_at, literal_at};
 
 use crate::reader::Reader;
-use crate::set::set;
 use crate::stop::{Cause, Stop};
 use crate::token::{Symbol, Token};
 use ucon_base::{Int, Value};
@@ -19,25 +18,29 @@ pub enum LiteralStart {
     Set,
 }
 
-fn symbol_literal(s: Symbol) -> Option<LiteralStart>
-    ensures { result ≡ symbol_literal (symbol_of s) }
-{
-    match s {
-        Symbol::Minus => Some(LiteralStart::Int),
-        Symbol::OpenCurly => Some(LiteralStart::Set),
-        _ => None,
+impl Symbol {
+    fn literal(self) -> Option<LiteralStart>
+        ensures { result ≡ symbol_literal (symbol_of self) }
+    {
+        match self {
+            Symbol::Minus => Some(LiteralStart::Int),
+            Symbol::OpenCurly => Some(LiteralStart::Set),
+            _ => None,
+        }
     }
 }
 
-#[tactic(auto, unfolding(crate::specs::Literals::literal_start))]
-fn literal_start(token: &Token) -> Option<LiteralStart>
-    ensures { result ≡ literal_start (token_of token.now) }
-{
-    match token {
-        Token::Number(_) => Some(LiteralStart::Int),
-        Token::Text(_) => Some(LiteralStart::Text),
-        Token::Symbol(s) => symbol_literal(*s),
-        _ => None,
+impl Token {
+    #[tactic(auto, unfolding(crate::specs::Literals::literal_start))]
+    fn literal(&self) -> Option<LiteralStart>
+        ensures { result ≡ literal_start (token_of self.now) }
+    {
+        match self {
+            Token::Number(_) => Some(LiteralStart::Int),
+            Token::Text(_) => Some(LiteralStart::Text),
+            Token::Symbol(s) => s.literal(),
+            _ => None,
+        }
     }
 }
 
@@ -50,17 +53,17 @@ fn negated(n: Int) -> Int
     }
 }
 
-/// The number behind a `-`.
-#[tactic(auto, unfolding(crate::specs::Literals::negative_at))]
-fn negative(reader: &mut Reader) -> Result<Int, Stop>
-    ensures read { Gives (λ n. (n, reader.new.tokens)) result reader.new.tokens (negative_at reader.old.tokens) }
-    ensures text { reader.new.text ≡ reader.old.text }
-{
-    let n = reader.number()?;
-    Ok(negated(n))
-}
-
 impl<'a> Reader<'a> {
+    /// The number behind a `-`.
+    #[tactic(auto, unfolding(crate::specs::Literals::negative_at))]
+    fn negative(&mut self) -> Result<Int, Stop>
+        ensures read { Gives (λ n. (n, self.new.tokens)) result self.new.tokens (negative_at self.old.tokens) }
+        ensures text { self.new.text ≡ self.old.text }
+    {
+        let n = self.number()?;
+        Ok(negated(n))
+    }
+
     /// Goes past a number, with or without a `-`.
     #[tactic(auto, unfolding(crate::specs::Literals::int_at))]
     pub fn int(&mut self) -> Result<Int, Stop>
@@ -69,7 +72,7 @@ impl<'a> Reader<'a> {
     {
         if self.first().is_symbol(Symbol::Minus) {
             self.advance();
-            return negative(self);
+            return self.negative();
         }
         self.number()
     }
@@ -80,7 +83,7 @@ impl<'a> Reader<'a> {
         ensures read { Gives (λ v. (v, self.new.tokens)) result self.new.tokens (literal_at self.old.tokens) }
         ensures text { self.new.text ≡ self.old.text }
     {
-        let Some(start) = literal_start(self.first()) else {
+        let Some(start) = self.first().literal() else {
             return Err(Stop::At(Cause::Unexpected));
         };
         match start {
@@ -94,7 +97,7 @@ impl<'a> Reader<'a> {
             }
             LiteralStart::Set => {
                 self.advance();
-                let texts = set(self)?;
+                let texts = self.set()?;
                 Ok(Value::Set(texts))
             }
         }

@@ -7,7 +7,7 @@ ghost use Rattle.ucon_token.specs.Tokens.{first, is_nil};
 ghost use Rattle.ucon_token.specs.Reader.{goes_on};
 ghost use Rattle.ucon_token.specs.Reading.{Gives, expect, expect_word, name_at, number_at, text_at};
 
-use crate::lex::{begin_of, fault_from, is_joined, token_from};
+use crate::lex::{begin_of, fault_from, is_joined, skip, token_at, token_from};
 use crate::stop::{Cause, Stop};
 use crate::token::{Symbol, Token};
 use std::alloc::Global;
@@ -43,8 +43,8 @@ impl<'a> Reader<'a> {
         ensures text { result.text ≡ text.now }
         ensures tokens { result.tokens ≡ tokens_of text.now }
     {
-        let begin = begin_of(false, text);
-        let (token, after) = token_from(false, begin);
+        let begin = skip(text);
+        let (token, after) = token_at(begin);
         Reader {
             alloc,
             text,
@@ -67,7 +67,7 @@ impl<'a> Reader<'a> {
         ensures tokens { self.new.tokens ≡ drop 1 self.old.tokens }
         ensures text { self.new.text ≡ self.old.text }
     {
-        match goes_on(&self.token) {
+        match self.token.goes_on() {
             None => self.token = Token::End,
             Some(behind) => {
                 let joined = is_joined(behind, self.after);
@@ -166,17 +166,19 @@ impl<'a> Reader<'a> {
     }
 }
 
-/// Whether tokens follow, and then whether this one is a number.
-fn goes_on(token: &Token) -> Option<bool>
-    ensures { result ≡ goes_on (token_of token.now) }
-{
-    match token {
-        Token::End => None,
-        Token::Bad(_) => None,
-        Token::Joined(_) => None,
-        Token::Number(_) => Some(true),
-        Token::Word(_) => Some(false),
-        Token::Text(_) => Some(false),
-        Token::Symbol(_) => Some(false),
+impl Token {
+    /// Whether tokens follow, and then whether this one is a number.
+    fn goes_on(&self) -> Option<bool>
+        ensures { result ≡ goes_on (token_of self.now) }
+    {
+        match self {
+            Token::End => None,
+            Token::Bad(_) => None,
+            Token::Joined(_) => None,
+            Token::Number(_) => Some(true),
+            Token::Word(_) => Some(false),
+            Token::Text(_) => Some(false),
+            Token::Symbol(_) => Some(false),
+        }
     }
 }

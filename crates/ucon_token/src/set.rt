@@ -9,6 +9,7 @@ ghost use Rattle.ucon_token.specs.Literals.{member_at, texts_at, set_at};
 use crate::reader::Reader;
 use crate::stop::{Cause, Stop};
 use crate::token::Symbol;
+use std::alloc::Global;
 use ucon_base::{MOST_TEXTS, NoMemory, Text, TextSet};
 
 /// Whether the texts still rise with this one behind them.
@@ -25,61 +26,63 @@ fn rises(set: &TextSet, text: &Text) -> bool
 
 /// The set with a text that is above all of it.
 #[tactic(auto, using(crate::proofs::Rises::with_text_last))]
-fn longer(reader: &Reader, set: &TextSet, text: &Text) -> Result<TextSet, NoMemory>
+fn longer(alloc: Global, set: &TextSet, text: &Text) -> Result<TextSet, NoMemory>
     requires rises { is_rising (set.now ++ text.now ∷ []) ≡ true }
     requires room { length set.now < most_texts }
     ensures { IfOk result (λ s. s ≡ set.now ++ text.now ∷ []) }
 {
-    Ok(set.with(reader.alloc, text)?)
+    Ok(set.with(alloc, text)?)
 }
 
-/// The next text, which is above the others.
-#[tactic(auto, unfolding(crate::specs::Literals::member_at))]
-fn member(reader: &mut Reader, set: &TextSet) -> Result<TextSet, Stop>
-    requires rising { is_rising set.now ≡ true }
-    requires room { length set.now < most_texts }
-    ensures read { Gives (λ s. (s, reader.new.tokens)) result reader.new.tokens (member_at set.now reader.old.tokens) }
-    ensures text { reader.new.text ≡ reader.old.text }
-{
-    let Some(text) = reader.first().text() else {
-        return Err(Stop::At(Cause::Unexpected));
-    };
-    if !rises(set, &text) {
-        return Err(Stop::At(Cause::Unexpected));
-    }
-    let more = longer(reader, set, &text)?;
-    reader.advance();
-    Ok(more)
-}
-
-fn texts(reader: &mut Reader) -> Result<TextSet, Stop>
-    ensures read { Gives (λ s. (s, reader.new.tokens)) result reader.new.tokens (texts_at most_texts [] reader.old.tokens) }
-    ensures text { reader.new.text ≡ reader.old.text }
-{
-    let mut set = TextSet::empty(reader.alloc);
-    for _ in 0..MOST_TEXTS {
-        set = member(reader, &set)?;
-        if !reader.first().is_symbol(Symbol::Comma) {
-            reader.expect(Symbol::CloseCurly)?;
-            return Ok(set);
+impl<'a> Reader<'a> {
+    /// The next text, which is above the others.
+    #[tactic(auto, unfolding(crate::specs::Literals::member_at))]
+    fn member(&mut self, set: &TextSet) -> Result<TextSet, Stop>
+        requires rising { is_rising set.now ≡ true }
+        requires room { length set.now < most_texts }
+        ensures read { Gives (λ s. (s, self.new.tokens)) result self.new.tokens (member_at set.now self.old.tokens) }
+        ensures text { self.new.text ≡ self.old.text }
+    {
+        let Some(text) = self.first().text() else {
+            return Err(Stop::At(Cause::Unexpected));
+        };
+        if !rises(set, &text) {
+            return Err(Stop::At(Cause::Unexpected));
         }
-        reader.advance();
+        let more = longer(self.alloc, set, &text)?;
+        self.advance();
+        Ok(more)
     }
-    match reader.first().text() {
-        None => Err(Stop::At(Cause::Unexpected)),
-        Some(_) => Err(Stop::At(Cause::TooMany)),
-    }
-}
 
-/// The texts of a set and the `}`.
-#[tactic(auto, unfolding(crate::specs::Literals::set_at))]
-pub fn set(reader: &mut Reader) -> Result<TextSet, Stop>
-    ensures read { Gives (λ s. (s, reader.new.tokens)) result reader.new.tokens (set_at reader.old.tokens) }
-    ensures text { reader.new.text ≡ reader.old.text }
-{
-    if reader.first().is_symbol(Symbol::CloseCurly) {
-        reader.advance();
-        return Ok(TextSet::empty(reader.alloc));
+    fn texts(&mut self) -> Result<TextSet, Stop>
+        ensures read { Gives (λ s. (s, self.new.tokens)) result self.new.tokens (texts_at most_texts [] self.old.tokens) }
+        ensures text { self.new.text ≡ self.old.text }
+    {
+        let mut set = TextSet::empty(self.alloc);
+        for _ in 0..MOST_TEXTS {
+            set = self.member(&set)?;
+            if !self.first().is_symbol(Symbol::Comma) {
+                self.expect(Symbol::CloseCurly)?;
+                return Ok(set);
+            }
+            self.advance();
+        }
+        match self.first().text() {
+            None => Err(Stop::At(Cause::Unexpected)),
+            Some(_) => Err(Stop::At(Cause::TooMany)),
+        }
     }
-    texts(reader)
+
+    /// The texts of a set and the `}`.
+    #[tactic(auto, unfolding(crate::specs::Literals::set_at))]
+    pub(crate) fn set(&mut self) -> Result<TextSet, Stop>
+        ensures read { Gives (λ s. (s, self.new.tokens)) result self.new.tokens (set_at self.old.tokens) }
+        ensures text { self.new.text ≡ self.old.text }
+    {
+        if self.first().is_symbol(Symbol::CloseCurly) {
+            self.advance();
+            return Ok(TextSet::empty(self.alloc));
+        }
+        self.texts()
+    }
 }

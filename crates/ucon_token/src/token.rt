@@ -57,30 +57,32 @@ pub enum Token {
     End,
 }
 
-fn code(s: Symbol) -> u8
-    ensures { result ≡ code (symbol_of s) }
-{
-    match s {
-        Symbol::Colon => 0,
-        Symbol::Semicolon => 1,
-        Symbol::Comma => 2,
-        Symbol::Dot => 3,
-        Symbol::Dots => 4,
-        Symbol::Equal => 5,
-        Symbol::NotEqual => 6,
-        Symbol::Less => 7,
-        Symbol::LessEqual => 8,
-        Symbol::Greater => 9,
-        Symbol::GreaterEqual => 10,
-        Symbol::Plus => 11,
-        Symbol::Minus => 12,
-        Symbol::Star => 13,
-        Symbol::OpenRound => 14,
-        Symbol::CloseRound => 15,
-        Symbol::OpenSquare => 16,
-        Symbol::CloseSquare => 17,
-        Symbol::OpenCurly => 18,
-        Symbol::CloseCurly => 19,
+impl Symbol {
+    fn code(self) -> u8
+        ensures { result ≡ code (symbol_of self) }
+    {
+        match self {
+            Symbol::Colon => 0,
+            Symbol::Semicolon => 1,
+            Symbol::Comma => 2,
+            Symbol::Dot => 3,
+            Symbol::Dots => 4,
+            Symbol::Equal => 5,
+            Symbol::NotEqual => 6,
+            Symbol::Less => 7,
+            Symbol::LessEqual => 8,
+            Symbol::Greater => 9,
+            Symbol::GreaterEqual => 10,
+            Symbol::Plus => 11,
+            Symbol::Minus => 12,
+            Symbol::Star => 13,
+            Symbol::OpenRound => 14,
+            Symbol::CloseRound => 15,
+            Symbol::OpenSquare => 16,
+            Symbol::CloseSquare => 17,
+            Symbol::OpenCurly => 18,
+            Symbol::CloseCurly => 19,
+        }
     }
 }
 
@@ -91,7 +93,7 @@ impl Token {
         ensures { result ≡ is_symbol (token_of self.now) (symbol_of s) }
     {
         match self {
-            Token::Symbol(t) => code(s) == code(*t),
+            Token::Symbol(t) => s.code() == t.code(),
             _ => false,
         }
     }

@@ -32,4 +32,4 @@ pub use laws::{
     generated_documents_are_accepted, runs_go_on_where_they_stopped,
 };
 pub use top::{run, run_alone};
-pub use ucon_outcome::{Ended, Outcome, PolicyFault, Refused, report};
+pub use ucon_outcome::{Ended, Outcome, PolicyFault, Refused};

@@ -1,6 +1,6 @@
 //! Tells of a journal, over which no line is run.
 
-ghost use Rattle.std.specs.Prelude.{◌≡◌, ◌⊎◌, ◌≤◌, length, IfOk, IfErr, OnErr, ⊤};
+ghost use Rattle.std.specs.Prelude.{◌≡◌, ◌⊎◌, ◌≤◌, length, false, IfOk, IfErr, OnErr, ⊤};
 ghost use Rattle.ucon_disk.specs.Causes.{raised};
 ghost use Rattle.ucon_audit.specs.Audited.{audit_spelling};
 ghost use Rattle.ucon_audit.specs.Report.{line_of, tree};
@@ -9,13 +9,13 @@ ghost use Rattle.ucon_journal.specs.Opened.{opened};
 ghost use Rattle.ucon_model.specs.Document.{policy_part};
 ghost use Rattle.ucon_model.specs.Limits.{most_document};
 ghost use Rattle.ucon_top.specs.Accepted.{HasSomePolicy};
+ghost use Rattle.ucon_top.specs.Closing.{IsWritten};
 ghost use Rattle.ucon_top.specs.Ending.{IsCounted, IsOfAccepted, IsOfDocument, IsUntouched, IsUnwritten, MayEnd, status_of};
 ghost use Rattle.ucon_top.specs.Form.{TellsText};
 ghost use Rattle.ucon_top.specs.OwnReading.{HasTold, IsAccepted, IsCheckedState, IsOpenedState, IsRefusedBy, IsUnchecked, IsUnopened, Tells, TellsNothing};
 
 use crate::document::read_accepted;
 use crate::form::Form;
-use crate::play::write_output;
 use std::alloc::Global;
 use std::thread::Threads;
 use ucon_audit::{Kept, audit_text, report_text};
@@ -23,7 +23,7 @@ use ucon_base::{Name, NoMemory};
 use ucon_disk::Disk;
 use ucon_engine::Engine;
 use ucon_explain::try_text;
-use ucon_flow::Sink;
+use ucon_flow::{Sink, write_all};
 use ucon_outcome::{Ended, Outcome};
 use ucon_script::policy_part;
 use ucon_store::{Store, StoreFault};
@@ -62,8 +62,18 @@ pub fn tell<E: Engine, K: Sink, D: Disk, R: Threads + Sync>(
         Err((disk, fault)) => return Ended::by(Outcome::from(fault), disk),
     };
     match text {
-        Ok(text) => Ended::by(write_output(out, &text, false), disk),
+        Ok(text) => Ended::by(write_text(out, &text), disk),
         Err(refused) => Ended::by(Outcome::NoMemory(refused), disk),
+    }
+}
+
+/// Writes a text, and tells how that ends.
+fn write_text<K: Sink>(out: &mut K, text: &[u8]) -> Outcome
+    ensures { IsWritten result text.now false (K.seen out.old).contents (K.seen out.new).contents (K.seen out.old).faults (K.seen out.new).faults }
+{
+    match write_all(out, text) {
+        Err(_) => Outcome::SinkFault,
+        Ok(()) => Outcome::Done,
     }
 }
 

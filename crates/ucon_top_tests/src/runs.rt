@@ -8,7 +8,7 @@ use std::thread::Threads;
 use ucon_client::OpenGate;
 use ucon_disk::MemDisk;
 use ucon_flow::{MemSink, MemSource};
-use ucon_top::{report, run};
+use ucon_top::run;
 
 /// A source of a document. It gives at most so many bytes a call, and its calls of these numbers fail.
 pub fn source_of(
@@ -105,7 +105,7 @@ pub fn ran<R: Threads + Wait + Sync>(
     let words = words(alloc, all)?;
     let mut told = MemSink::new(alloc, 4096, Vec::new(alloc));
     let ended = run(rt, alloc, &words, &mut source, &mut sink, disk, &OpenGate);
-    let _ = report(&ended.outcome, &mut told);
+    let _ = ended.outcome.report(&mut told);
     Ok(End {
         status: ended.status,
         sink,

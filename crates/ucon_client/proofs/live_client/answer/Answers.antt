@@ -7,15 +7,15 @@ use Rattle.ucon_client.proofs.live_client.answer.Goals as goal
 pub answer_next-requires-clause-serves : goal.answer_next-requires-clause-serves
 answer_next-requires-clause-serves g c =
     let client = c.args.client.now in
-    serves_alone c.args.turn.now c.add_line.new.part client.seat client.looks
-    (serves_more c.args.turn.now client.part c.add_line.new.part client.seat (as_of client.part.number c.args.line ∷ []) c.requires.serves c.requires.answered
+    serves_alone c.args.turn.now c.add_line.new.self client.seat client.looks
+    (serves_more c.args.turn.now client.part c.add_line.new.self client.seat (as_of client.part.number c.args.line ∷ []) c.requires.serves c.requires.answered
     c.add_line.ensures.part c.add_line.ensures.number c.in-Ok.ensures.ok c.add_line.ensures.answers)
     c.requires.alone
 
 pub returns-clause-answered : goal.returns-clause-answered
 returns-clause-answered g c =
     let old = c.args.client.now.part in
-    let was = c.add_line.new.part in
+    let was = c.add_line.new.self in
     let line = as_of old.number c.args.line in
     let lines : length was.lines.items ≡ length old.lines.items + 1 = ap (λ ls. length ls) c.in-Ok.ensures.ok ∙ length_push old.lines.items line in
     let long : length was.lines.items ≡ length was.answers.items + 1 =
@@ -27,5 +27,5 @@ returns-clause-answered g c =
 pub returns-in-Err-clause-serves : goal.returns-in-Err-clause-serves
 returns-in-Err-clause-serves g c =
     let was = c.args.client.now.part in
-    serves_more c.args.turn.now was c.add_line.new.part c.args.client.now.seat [] c.requires.serves c.requires.answered c.add_line.ensures.part
+    serves_more c.args.turn.now was c.add_line.new.self c.args.client.now.seat [] c.requires.serves c.requires.answered c.add_line.ensures.part
     c.add_line.ensures.number (c.in-Err.ensures.err ∙ sym (append-nil was.lines.items)) c.add_line.ensures.answers

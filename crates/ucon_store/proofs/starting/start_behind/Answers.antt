@@ -15,8 +15,8 @@ use Rattle.ucon_syntax.specs.Policies.{accepted}
 use Rattle.ucon_store.proofs.Reading.{accepted_some, behind_told, comes_told, no_point_told}
 use Rattle.ucon_store.proofs.starting.start_behind.Goals as goal
 
-pub take_point-requires-clause-upto : goal.take_point-requires-clause-upto
-take_point-requires-clause-upto g c =
+pub take_from-requires-clause-upto : goal.take_from-requires-clause-upto
+take_from-requires-clause-upto g c =
     comes_told (payload_of c.args.journal.now) (gate_of c.args.journal.now) c.args.last c.requires.gate (g.D.Disk.seen (disk_of c.args.journal.now)).contents c.requires.walked
 
 pub returns-in_default-clause-reason : goal.returns-in_default-clause-reason
@@ -24,23 +24,23 @@ returns-in_default-clause-reason g c = λ _.
     let o = (g.D.Disk.seen (disk_of c.args.journal.now)).contents in
     let text = payload_of c.args.journal.now in
     let gate = gate_of c.args.journal.now in
-    let next = gate_of c.take_point.new.journal in
-    let payload = payload_of c.take_point.new.journal in
+    let next = gate_of c.take_from.new.journal in
+    let payload = payload_of c.take_from.new.journal in
     let last = c.args.last in
     let some_read : is_none c.in_ok-read_accepted.field-0 ≡ false = search rules in
     let some = accepted_some c.deref.result.now checked_policy c.in_ok-read_accepted.field-0 some_read c.in_ok-read_accepted.ensures.policy in
     let accepts : accepted text ≡ Some some.0 = ap accepted (sym c.payload.ensures ∙ sym c.in_ok-policy.ensures ∙ sym c.deref.ensures.value) ∙ some.1 in
     let none : IsOfNone last.entries payload = subst (IsOfNone last.entries) c.payload-2.ensures
     (subst (λ (r : _). MatchOption r (IsOfNone last.entries c.payload-2.result.now) (λ r. TakesUp g.E.Engine.follows last.entries c.payload-2.result.now r.engine r.point r.text.items)) c.in_default.is c.in_ok-restored.ensures) in
-    (no_point_told text gate last c.requires.gate payload next some.0 accepts none o c.requires.walked c.in_ok-take_point.ensures.taken, c.in_ok-take_point.ensures.unfailed)
+    (no_point_told text gate last c.requires.gate payload next some.0 accepts none o c.requires.walked c.in_ok-take_from.ensures.taken, c.in_ok-take_from.ensures.unfailed)
 
 pub returns-clause-loading : goal.returns-clause-loading
 returns-clause-loading g c =
     let o = (g.D.Disk.seen (disk_of c.args.journal.now)).contents in
     let text = payload_of c.args.journal.now in
     let gate = gate_of c.args.journal.now in
-    let next = gate_of c.take_point.new.journal in
-    let payload = payload_of c.take_point.new.journal in
+    let next = gate_of c.take_from.new.journal in
+    let payload = payload_of c.take_from.new.journal in
     let last = c.args.last in
     let point = c.in-Some.restored.point in
     let engine = c.in-Some.restored.engine in
@@ -71,8 +71,8 @@ returns-clause-loading g c =
             ∙ (λ i. text_in_force (text_said policy (point_read (sym up.payload_is i))) (sym none i));
       };
       entries = let lengths = ap (λ (l : List Entry). length l) none in omega (arith, lengths, c.requires.below.0);
-      few = c.in_ok-take_point.ensures.small;
+      few = c.in_ok-take_from.ensures.small;
       says = subst (λ (z : Option Bytes × Bytes × Bytes × List Entry). IfSome z.0 (IsReadTo z.1 P (Some z.2) last.entries z.3 (last.number + 1) next))
-          (λ i. (sym c.take_point.ensures.contents i, sym same i, sym up.payload_is i, sym none i))
-          (behind_told text gate last c.requires.gate payload next P o c.requires.walked c.in_ok-take_point.ensures.taken);
+          (λ i. (sym c.take_from.ensures.contents i, sym same i, sym up.payload_is i, sym none i))
+          (behind_told text gate last c.requires.gate payload next P o c.requires.walked c.in_ok-take_from.ensures.taken);
     }

@@ -22,23 +22,23 @@ like c = record { rows = λ n. ap (λ rows. member_at rows.items n) c.reach_lead
 
 pub invariant_of-self-2 : goal.invariant_of-self-2
 invariant_of-self-2 c =
-    subst IsSound (sym c.mark.ensures)
+    subst IsSound (sym c.open.ensures)
     (open_sound (seen c.reach_leader.new.self) c.args.leader c.in_ok-reach_leader.ensures.reached
     (like_sound (seen c.self.inside.table) (seen c.reach_leader.new.self) (like c) c.self.invariant))
 
-opens_it : (c : goal.After-push_reserved) → Opens (seen c.self.inside.table) (seen c.mark.new.self) c.args.leader
-opens_it c = subst (λ (w : Members). Opens (seen c.self.inside.table) w c.args.leader) (sym c.mark.ensures)
+opens_it : (c : goal.After-push_reserved) → Opens (seen c.self.inside.table) (seen c.open.new.self) c.args.leader
+opens_it c = subst (λ (w : Members). Opens (seen c.self.inside.table) w c.args.leader) (sym c.open.ensures)
     (opens (seen c.self.inside.table) (seen c.reach_leader.new.self) c.args.leader (like c) c.in_ok-reach_leader.ensures.reached)
 
 pub returns-clause-opens : goal.returns-clause-opens
-returns-clause-opens c = subst (λ (l : Listed). Opens l.members (seen c.mark.new.self) c.args.leader) c.self.view_is (opens_it c)
+returns-clause-opens c = subst (λ (l : Listed). Opens l.members (seen c.open.new.self) c.args.leader) c.self.view_is (opens_it c)
 
 pub returns-clause-undo : goal.returns-clause-undo
 returns-clause-undo c = λ before gives.
-    let count : length (seen c.mark.new.self).rows ≡ length c.self.inside.table.rows.items =
-    ap (λ (w : Members). length w.rows) c.mark.ensures ∙ ap (λ rows. length rows.items) c.reach_leader.ensures.rows in
+    let count : length (seen c.open.new.self).rows ≡ length c.self.inside.table.rows.items =
+    ap (λ (w : Members). length w.rows) c.open.ensures ∙ ap (λ rows. length rows.items) c.reach_leader.ensures.rows in
     opened_gives (record { members = seen c.self.inside.table; changes = c.self.inside.changes.items })
-    (record { members = seen c.mark.new.self; changes = c.push_reserved.new.self.items }) c.args.leader before c.self.invariant
+    (record { members = seen c.open.new.self; changes = c.push_reserved.new.self.items }) c.args.leader before c.self.invariant
     (subst (λ (l : Listed). is_joined l.members c.args.leader ≡ false) (sym c.self.view_is) c.requires) (opens_it c) (omega (arith, count))
     (c.push_reserved.ensures.items ∙ ap (λ (cs : List Change). cs ++ Founded c.args.leader ∷ []) c.reserve.ensures.items)
     (subst (λ (l : Listed). UndoGives l before) (sym c.self.view_is) gives)

@@ -9,7 +9,7 @@ use Rattle.ucon_collections.proofs.Standing.{first_led, in_within, joined_within
 use Rattle.ucon_collections.proofs.lists.Lists.take_back.Goals as goal
 
 -- what can be undone, by the fields
-founded : (c : goal.After-mark) → CanUndo (Founded c.in-Founded.leader) (who_in (seen c.self.inside.table)) (length c.self.inside.table.rows.items)
+founded : (c : goal.After-shut) → CanUndo (Founded c.in-Founded.leader) (who_in (seen c.self.inside.table)) (length c.self.inside.table.rows.items)
 founded c = subst (λ (change : Change). CanUndo change (who_in (seen c.self.inside.table)) (length c.self.inside.table.rows.items)) c.in-Founded.is
     (subst (λ (l : Listed). CanUndo c.args.change (who_in l.members) (length l.members.rows)) (sym c.self.view_is) c.requires)
 
@@ -33,11 +33,11 @@ left c = subst (λ (change : Change). CanUndo change (who_in (seen c.self.inside
 -- ---- a list was joined
 
 pub invariant_of-self : goal.invariant_of-self
-invariant_of-self c = subst IsSound (sym c.mark.ensures) (shut_sound (seen c.self.inside.table) c.in-Founded.leader c.self.invariant (founded c).1)
+invariant_of-self c = subst IsSound (sym c.shut.ensures) (shut_sound (seen c.self.inside.table) c.in-Founded.leader c.self.invariant (founded c).1)
 
 pub returns-in-Founded-clause-who : goal.returns-in-Founded-clause-who
 returns-in-Founded-clause-who c =
-    ap who_in c.mark.ensures ∙ back_shut (seen c.self.inside.table) c.in-Founded.leader (founded c).0
+    ap who_in c.shut.ensures ∙ back_shut (seen c.self.inside.table) c.in-Founded.leader (founded c).0
     ∙ ap (λ (change : Change). undone change (who_in (seen c.self.inside.table))) (sym c.in-Founded.is)
     ∙ ap (λ (l : Listed). undone c.args.change (who_in l.members)) c.self.view_is
 

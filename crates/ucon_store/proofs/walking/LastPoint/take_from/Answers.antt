@@ -6,14 +6,14 @@ use Rattle.ucon_model.specs.Plain.{Bytes}
 use Rattle.ucon_store.specs.Parted.{Parted}
 use Rattle.ucon_store.specs.Reaching.{CanBePassed, IsUpTo}
 use Rattle.ucon_store.proofs.Reached.{can_be_passed, gone_told, leads_told, taken_more}
-use Rattle.ucon_store.proofs.reaching.take_point.Goals as goal
+use Rattle.ucon_store.proofs.walking.LastPoint.take_from.Goals as goal
 
 pub go_to-requires-clause-leads : goal.go_to-requires-clause-leads
-go_to-requires-clause-leads g c = leads_told c.args.last (g.D.Disk.seen (disk_of c.args.journal.now)).contents (gate_of c.args.journal.now) c.requires.upto
+go_to-requires-clause-leads g c = leads_told c.args.self (g.D.Disk.seen (disk_of c.args.journal.now)).contents (gate_of c.args.journal.now) c.requires.upto
 
 pub pass-requires-clause-some : goal.pass-requires-clause-some
 pass-requires-clause-some g c =
-    let last = c.args.last in
+    let last = c.args.self in
     let o = (g.D.Disk.seen (disk_of c.args.journal.now)).contents in
     let first = gate_of c.args.journal.now in
     let same : (g.D.Disk.seen (disk_of c.go_to.new.self)).contents ≡ o = ap (λ d. (g.D.Disk.seen d).contents) c.go_to.ensures.disk in
@@ -24,7 +24,7 @@ pass-requires-clause-some g c =
 pub returns-clause-taken : goal.returns-clause-taken
 returns-clause-taken g c =
     let done = c.in_ok-pass.ensures in
-    let last = c.args.last in
+    let last = c.args.self in
     let o = (g.D.Disk.seen (disk_of c.args.journal.now)).contents in
     let first = gate_of c.args.journal.now in
     let gate = gate_of c.go_to.new.self in
