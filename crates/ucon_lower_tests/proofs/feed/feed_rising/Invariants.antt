@@ -1,5 +1,0 @@
-use Rattle.std.proofs.Common.{◌≡◌, false}
-use Rattle.ucon_lower_tests.proofs.feed.feed_rising.Given as goal
-
-abbrev pub invariant-loop-line : goal.invariant-loop-line
-invariant-loop-line g l = (l.feeder.fed.ended ≡ false) × (l.feeder.inbox ≡ l.fn.feeder.inbox)

@@ -1,7 +1,0 @@
-use Rattle.std.proofs.Common.{refl, rules}
-use Rattle.std.specs.Prelude.{codes}
-use Rattle.ucon_lower_tests.specs.Keeping.{long_line}
-use Rattle.ucon_lower_tests.proofs.tell.ScribeKeeper.too_long.Goals as goal
-
-pub returns : goal.returns
-returns g c = record { reply = (codes "too long\n", long_line, refl, search rules) }
