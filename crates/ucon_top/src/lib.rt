@@ -29,7 +29,9 @@ mod top;
 pub use form::Form;
 pub use laws::{
     accepted_documents_are_not_refused, files_are_found_as_one_history,
-    generated_documents_are_accepted, runs_go_on_where_they_stopped,
+    foreign_files_stay_as_they_are, generated_documents_are_accepted, openings_keep_each_record,
+    runs_go_on_where_they_stopped, status_0_tells_of_each_line,
+    status_13_tells_the_checkpoints_size,
 };
 pub use top::{run, run_alone};
 pub use ucon_outcome::{Ended, Outcome, PolicyFault, Refused};
