@@ -2,7 +2,7 @@
 
 ghost use Rattle.std.specs.Prelude.{◌≡◌, ◌<◌, ℕ, List, Option, [], Some, None, length};
 ghost use Rattle.ucon_links.specs.OneList.{PlaceLaw};
-ghost use Rattle.ucon_links.specs.Lists.{first_or, listed_nodes, IsDistinct};
+ghost use Rattle.ucon_links.specs.Lists.{Lists, first_or, hide, listed_nodes, nodes_of, unhide, CanUnhide, IsDistinct, IsListed};
 ghost use Rattle.ucon_links.specs.Dependents.{Dependents, place_at, stands_in, walked};
 ghost use Rattle.ucon_links.specs.Walk.{IsMet, IsWalked};
 
@@ -20,3 +20,9 @@ pub fn walks_meet_who_stands()
 {
     nodes_stand_where_listed();
 }
+
+/// A listed node that was just hidden can be unhidden, and then the lists are as they were before.
+pub fn unhiding_undoes_a_hide()
+    ensures may { (v : Lists) (node : ℕ) → IsListed v node → CanUnhide (hide v node) node }
+    ensures back { (v : Lists) (node : ℕ) → IsListed v node → IsDistinct (nodes_of (hide v node)) → unhide (hide v node) ≡ v }
+{}

@@ -20,7 +20,7 @@ mod newest;
 mod table;
 
 pub use index::Index;
-pub use laws::{nodes_stand_where_listed, walks_meet_who_stands};
+pub use laws::{nodes_stand_where_listed, unhiding_undoes_a_hide, walks_meet_who_stands};
 pub use links::{Links, NodeId};
 // A crate can name `Links` in a contract only if the types of its fields are exported.
 #[doc(hidden)]

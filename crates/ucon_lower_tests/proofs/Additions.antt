@@ -4,7 +4,11 @@ use Rattle.std.proofs.lemmas.List.{append-nil}
 use Rattle.ucon_base.specs.Elements.{Each, each_map, each_both}
 use Rattle.ucon_turn.specs.Lists.{Has, Continues, ByOthers, continues_trans}
 use Rattle.ucon_lower_tests.specs.Additions.{total_of, serial_from, serial}
-use Rattle.ucon_turn.proofs.Lists.{continues_map}
+
+-- what holds of each number that is in a list
+pub each_has : (P : ℕ → Type 0) (ks : List ℕ) → ((k : ℕ) → Has ks k → P k) → Each P ks
+each_has P [] f = tt
+each_has P (k ∷ ks) f = (f k (inl refl), each_has P ks (λ j h. f j (inr h)))
 
 abbrev Addition : Type 0
 Addition = ℕ × ℕ
@@ -64,7 +68,9 @@ pub only_two : (t u : List ℕ) (xs ys zs : List Addition) → xs ≡ [] → Con
     → Continues (λ (e : Addition). Has (0 ∷ 2 ∷ 1 ∷ []) e.0) [] zs → Each (λ e. Has (1 ∷ 2 ∷ []) e.0) zs
 only_two t u xs ys zs none c d all =
     let NotZero : Addition → Type 0 = λ e. e.0 ≢ 0 in
-    let on : Continues NotZero xs zs = continues_trans NotZero xs ys zs (continues_map (ByOthers (λ (e : Addition). e.0) 0 t) NotZero (λ e h. h.0) xs ys c) (continues_map (ByOthers (λ (e : Addition). e.0) 0 u) NotZero (λ e h. h.0) ys zs d) in
+    let first : Continues NotZero xs ys = (c.0, c.1, each_map (ByOthers (λ (e : Addition). e.0) 0 t) NotZero (λ e h. h.0) c.0 c.2) in
+    let then : Continues NotZero ys zs = (d.0, d.1, each_map (ByOthers (λ (e : Addition). e.0) 0 u) NotZero (λ e h. h.0) d.0 d.2) in
+    let on : Continues NotZero xs zs = continues_trans NotZero xs ys zs first then in
     let on_is : on.0 ≡ zs = sym (ap (λ l. l ++ on.0) none) ∙ on.1 in
     let all_is : all.0 ≡ zs = all.1 in
     each_both NotZero (λ e. Has (0 ∷ 2 ∷ 1 ∷ []) e.0) (λ e. Has (1 ∷ 2 ∷ []) e.0) (λ e n h. two e.0 n h) zs (subst (Each NotZero) on_is on.2) (subst (Each (λ (e : Addition). Has (0 ∷ 2 ∷ 1 ∷ []) e.0)) all_is all.2)

@@ -1,2 +1,3 @@
 pub mod Additions
 pub mod Scribing
+pub mod Walking

@@ -6,14 +6,14 @@ ghost use Rattle.ucon_links.specs.Dependents.{empty_place, is_there, place_at};
 use std::alloc::Global;
 use std::test::Fail;
 use ucon_base::NoMemory;
-use ucon_links::{Index, nodes_stand_where_listed};
+use ucon_links::{Index, walks_meet_who_stands};
 
 // The sessions of a place, as a walk meets them.
 fn walk(alloc: Global, index: &Index, place: u32) -> Result<Vec<u32>, NoMemory>
     requires { place < length index.now.places }
     ensures { IfOk result (λ sessions. sessions.items ≡ map (λ x. x.1) (place_at index.now.places place).listed) }
 {
-    nodes_stand_where_listed();
+    walks_meet_who_stands();
     let mut sessions = Vec::new(alloc);
     let mut at = index.first(place);
     while let Some(node) = at {

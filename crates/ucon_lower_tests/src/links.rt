@@ -6,12 +6,13 @@ ghost use Rattle.ucon_links.specs.Lists.{IsListed};
 use std::alloc::Global;
 use std::test::Fail;
 use ucon_base::NoMemory;
-use ucon_links::{Links, NodeId};
+use ucon_links::{Links, NodeId, nodes_stand_where_listed, unhiding_undoes_a_hide};
 
 // The owners along a list.
 fn owners(alloc: Global, links: &Links, list: u32) -> Result<Vec<u32>, NoMemory>
     requires { list < length links.now.lists }
 {
+    nodes_stand_where_listed();
     let mut owners = Vec::new(alloc);
     let mut at = links.first(list);
     while let Some(node) = at {
@@ -26,6 +27,7 @@ fn find(links: &Links, list: u32, owner: u32) -> Option<NodeId>
     requires { list < length links.now.lists }
     ensures { IfSome result (IsListed links.now) }
 {
+    nodes_stand_where_listed();
     let mut at = links.first(list);
     for _ in 0..links.node_count() {
         let node = at?;
@@ -93,6 +95,7 @@ fn hide_and_restore(alloc: Global, links: &mut Links, steps: &[Step], before: &[
     requires { 2 ≤ length links.old.lists }
     ensures { links.new ≡ links.old }
 {
+    unhiding_undoes_a_hide();
     let were = have(alloc, links, before);
     let Some((step, rest)) = steps.split_first() else {
         return were;

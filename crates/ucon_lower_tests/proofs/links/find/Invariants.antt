@@ -1,6 +1,6 @@
 use Rattle.std.proofs.Common.{ℕ}
 use Rattle.ucon_links.specs.Lists.{nodes_of, IsDistinct}
-use Rattle.ucon_links.proofs.Walking.{IsOnTheWay}
+use Rattle.ucon_lower_tests.proofs.Walking.{IsOnTheWay}
 use Rattle.ucon_lower_tests.proofs.links.find.Given as goal
 
 abbrev pub invariant-loop : goal.invariant-loop

@@ -1,6 +1,6 @@
 use Rattle.std.proofs.Common.{vec_len, length, ◌-◌}
 use Rattle.ucon_links.specs.Lists.{list_at, nodes_of, IsDistinct}
-use Rattle.ucon_links.proofs.Walking.{IsOnTheWay}
+use Rattle.ucon_lower_tests.proofs.Walking.{IsOnTheWay}
 use Rattle.ucon_lower_tests.proofs.links.owners.Given as goal
 
 abbrev pub invariant-loop-at : goal.invariant-loop-at

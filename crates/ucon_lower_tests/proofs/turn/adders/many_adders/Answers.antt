@@ -1,6 +1,6 @@
 use Rattle.std.proofs.Common.{ℕ, List, subst, ⊎_elim}
 use Rattle.ucon_turn.specs.Lists.{Has}
-use Rattle.ucon_turn.proofs.Lists.{each_has}
+use Rattle.ucon_lower_tests.proofs.Additions.{each_has}
 use Rattle.ucon_lower_tests.proofs.turn.adders.many_adders.Goals as goal
 
 pub close-requires-clause-joined : goal.close-requires-clause-joined
