@@ -13,8 +13,8 @@ use crate::words::{count_in, cut_at};
 use std::alloc::Global;
 use ucon_base::{Int, NoMemory, Rows};
 use ucon_check::check;
-use ucon_model::limits::MOST_POLICY;
 use ucon_model::Checked;
+use ucon_model::limits::MOST_POLICY;
 use ucon_syntax::{SyntaxFault, read_policy};
 
 /// A policy, and its text.

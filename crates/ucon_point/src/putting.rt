@@ -13,8 +13,8 @@ ghost use Rattle.ucon_state.specs.Tables.{entities_of};
 use crate::order::Stage;
 use crate::row::Row;
 use ucon_base::{Name, NoMemory, Side, Value};
-use ucon_model::limits::MOST_ENTITIES;
 use ucon_model::SessionRow;
+use ucon_model::limits::MOST_ENTITIES;
 use ucon_state::{ActRow, State};
 
 /// Puts a row that comes at a stage into a state, and says whether it may be put there. Unless it was put, the state is as it was.

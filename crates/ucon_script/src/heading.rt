@@ -7,8 +7,8 @@ ghost use Rattle.ucon_script.specs.Document.{Gives, IsSure};
 
 use crate::DocFault;
 use crate::number::number_spelled;
-use ucon_model::limits::MOST_CLIENTS;
 use ucon_model::Caller;
+use ucon_model::limits::MOST_CLIENTS;
 
 /// The client of a heading at a line, given what stands behind the word `client`.
 pub fn heading(number: u32, spelling: &[u8]) -> Result<Caller, DocFault>

@@ -14,8 +14,8 @@ use crate::part::cut;
 use crate::{DocFault, LineText};
 use std::alloc::Global;
 use ucon_command::CommandLine;
-use ucon_model::limits::MOST_COMMAND_LINES;
 use ucon_model::Caller;
+use ucon_model::limits::MOST_COMMAND_LINES;
 
 /// Reads a script's lines one by one, in their order.
 #[derive(Drop)]

@@ -13,8 +13,8 @@ ghost use Rattle.ucon_syntax.specs.Refusals.{IsSyntaxFault, ReadsAs, RefusedFor,
 use crate::policy::whole;
 use std::alloc::Global;
 use ucon_base::NoMemory;
-use ucon_model::limits::MOST_POLICY;
 use ucon_model::Policy;
+use ucon_model::limits::MOST_POLICY;
 use ucon_token::{Cause, Flaw, Reader, Stop};
 
 /// Why a text is no policy. Places are byte offsets from 0.
