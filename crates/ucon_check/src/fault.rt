@@ -19,7 +19,7 @@ pub enum CheckFault {
     WrongKind(u32),
     /// The right of this name has updates that no core model has.
     NotCore(Name),
-    /// The ongoing predicates of the right of this name read so many distinct places, more than 32.
+    /// The ongoing predicates of the right of this name read so many distinct places, more than `MOST_PLACES`.
     TooManyCells(Name, u32),
 }
 

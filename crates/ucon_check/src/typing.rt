@@ -16,10 +16,8 @@ use crate::cores::is_core;
 use crate::counted::count_read;
 use crate::fault::after;
 use crate::items::{check_attr, check_env, check_heading, check_predicate, check_update};
+use ucon_model::limits::MOST_PLACES;
 use ucon_model::{AttrDecl, Checked, EnvDecl, Policy, Predicate, Right, Update};
-
-/// The most distinct places that a right's ongoing predicates may read.
-const MOST_PLACES: usize = 32;
 
 /// The attributes, the first of which is this item.
 fn check_attrs(first: u32, attrs: &[AttrDecl]) -> Result<(), CheckFault>
@@ -138,7 +136,7 @@ fn check_policy(policy: &Policy) -> Result<(), CheckFault>
 }
 
 /// The policy, if it is well typed, or its first fault. That is told whatever memory there is, since none is taken. A policy that was
-/// read has at most 16 attributes of each side; one that is built by hand is asked `Policy::has_few_attrs` first.
+/// read has few attributes of each side; one that is built by hand is asked `Policy::has_few_attrs` first.
 pub fn check(policy: Policy) -> Result<Checked, CheckFault>
     requires { HasFewAttrs (policy_of policy) }
     ensures ok { IfOk result (λ c. (checked_policy c ≡ policy_of policy) × IsTyped (policy_of policy)) }

@@ -16,7 +16,7 @@ use Rattle.ucon_model.specs.declared.policy.EnvDecl.{EnvDecl}
 use Rattle.ucon_model.specs.Plain.{Bytes, PlainExpr, lit, read, plus, minus, times, size, PlainFormula, both, either, negation, compare, lasts}
 use Rattle.ucon_model.specs.Plain.{PlainTest, authorisation, duty, condition, PlainPredicate, PlainUpdate, PlainRight, PlainPolicy}
 use Rattle.ucon_model.specs.Printing.{policy_printing}
-use Rattle.ucon_model.specs.Limits.{IsWithin}
+use Rattle.ucon_model.specs.Limits.{IsWithin, most_levels, most_operands, most_policy}
 
 -- a name
 abbrev pub IsName : Bytes → Type 0
@@ -59,13 +59,13 @@ IsPlace (refs.Subject name) = IsName name
 IsPlace (refs.Object name) = IsName name
 IsPlace (refs.Env name) = IsName name
 
--- values and names, at most 32 operands in each chain
+-- values and names, and not too many operands in each chain
 abbrev pub IsExpr : PlainExpr → Type 0
 IsExpr (lit v) = IsValue v
 IsExpr (read place) = IsPlace place
-IsExpr (plus a b) = (terms (plus a b) ≤ 32) × IsExpr a × IsExpr b
-IsExpr (minus a b) = (terms (minus a b) ≤ 32) × IsExpr a × IsExpr b
-IsExpr (times a b) = (factors (times a b) ≤ 32) × IsExpr a × IsExpr b
+IsExpr (plus a b) = (terms (plus a b) ≤ most_operands) × IsExpr a × IsExpr b
+IsExpr (minus a b) = (terms (minus a b) ≤ most_operands) × IsExpr a × IsExpr b
+IsExpr (times a b) = (factors (times a b) ≤ most_operands) × IsExpr a × IsExpr b
 IsExpr (size a) = IsExpr a
 
 -- ---- formulas
@@ -88,10 +88,10 @@ formula_levels least (negation f) = 1 + formula_levels 2 f
 formula_levels least (compare op a b) = max (expr_levels 0 a) (expr_levels 0 b)
 formula_levels least (lasts n) = 0
 
--- expressions and counts, at most 32 operands in each chain
+-- expressions and counts, and not too many operands in each chain
 abbrev pub IsFormula : PlainFormula → Type 0
-IsFormula (either f g) = (alternatives (either f g) ≤ 32) × IsFormula f × IsFormula g
-IsFormula (both f g) = (conjuncts (both f g) ≤ 32) × IsFormula f × IsFormula g
+IsFormula (either f g) = (alternatives (either f g) ≤ most_operands) × IsFormula f × IsFormula g
+IsFormula (both f g) = (conjuncts (both f g) ≤ most_operands) × IsFormula f × IsFormula g
 IsFormula (negation f) = IsFormula f
 IsFormula (compare op a b) = IsExpr a × IsExpr b
 IsFormula (lasts n) = IsCount n
@@ -128,11 +128,11 @@ pub record IsDuty (o : Obligation) : Type 0 where
   pub by_subject : IsParty o.by_subject
   pub on_object : IsParty o.on_object
 
--- at most 32 levels
+-- not too many levels
 abbrev pub IsTest : PlainTest → Type 0
-IsTest (authorisation f) = IsFormula f × (formula_levels 0 f ≤ 32)
+IsTest (authorisation f) = IsFormula f × (formula_levels 0 f ≤ most_levels)
 IsTest (duty o) = IsDuty o
-IsTest (condition f) = IsFormula f × (formula_levels 0 f ≤ 32)
+IsTest (condition f) = IsFormula f × (formula_levels 0 f ≤ most_levels)
 
 pub record IsPredicate (p : PlainPredicate) : Type 0 where
   pub label : IsName p.label
@@ -141,18 +141,18 @@ pub record IsPredicate (p : PlainPredicate) : Type 0 where
 pub record IsUpdate (u : PlainUpdate) : Type 0 where
   pub attr : IsName u.attr
   pub value : IsExpr u.value
-  pub levels : expr_levels 0 u.value ≤ 32
+  pub levels : expr_levels 0 u.value ≤ most_levels
 
 pub record IsRight (r : PlainRight) : Type 0 where
   pub name : IsName r.name
   pub preds : Each IsPredicate r.preds
   pub updates : Each IsUpdate r.updates
 
--- A policy within the limits as it is printed, in at most 65,536 bytes. The mirror of a policy doesn't say that bytes are a name or a text, or
--- that an integer is in range. So that is said here.
+-- A policy within the limits as it is printed, in a text that is not too long. The mirror of a policy doesn't say that bytes are a name or a
+-- text, or that an integer is in range. So that is said here.
 pub record IsPrintable (p : PlainPolicy) : Type 0 where
   pub within : IsWithin p
   pub attrs : Each IsAttr p.attrs
   pub envs : Each IsEnv p.envs
   pub rights : Each IsRight p.rights
-  pub short : length (policy_printing p) ≤ 65536
+  pub short : length (policy_printing p) ≤ most_policy

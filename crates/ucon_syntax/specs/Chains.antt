@@ -1,6 +1,7 @@
--- Chains of operands: each groups to the left, and has at most 32.
-use Rattle.std.specs.Prelude.{ℕ, zero, suc, Bool, drop, Ok, Err, if◌then◌else◌}
+-- Chains of operands: each groups to the left, and none is too long.
+use Rattle.std.specs.Prelude.{ℕ, zero, suc, ◌-◌, Bool, drop, Ok, Err, if◌then◌else◌}
 use Rattle.ucon_base.specs.Tokens.{Token}
+use Rattle.ucon_model.specs.Limits.{most_operands}
 use Rattle.ucon_token.specs.declared.stop.Cause.TheVariants.{TooMany}
 use Rattle.ucon_token.specs.Tokens.{first}
 use Rattle.ucon_token.specs.Reading.{Reads, ◌>>=◌}
@@ -23,6 +24,6 @@ more ops operand (suc n) all ts = if ops.goes_on (first ts)
     then (operand (drop 1 ts) >>= λ next. more ops operand n (ops.join (first ts) all next.0) next.1)
     else Ok (all, ts)
 
--- a chain of at most 32 operands
+-- a chain of operands
 abbrev pub chain : {A : Type 0} → Operators A → Reads A → Reads A
-chain ops operand ts = operand ts >>= λ x. more ops operand 31 x.0 x.1
+chain ops operand ts = operand ts >>= λ x. more ops operand (most_operands - 1) x.0 x.1

@@ -14,6 +14,7 @@ use Rattle.ucon_model.specs.declared.policy.Phase.{Phase}
 use Rattle.ucon_model.specs.declared.policy.Phase.TheVariants as phases
 use Rattle.ucon_model.specs.declared.policy.When.{When}
 use Rattle.ucon_model.specs.declared.policy.When.TheVariants as whens
+use Rattle.ucon_model.specs.Limits.{most_levels, most_of_a_sort}
 use Rattle.ucon_model.specs.Plain.{Bytes, PlainTest, authorisation, duty, condition, PlainPredicate, PlainUpdate}
 use Rattle.ucon_base.specs.Tokens.{Token, colon, semicolon, dot, dots, equal_sign}
 use Rattle.ucon_token.specs.declared.stop.Cause.TheVariants.{Unexpected, TooMany}
@@ -50,7 +51,7 @@ when_number whens.AfterEnd = 2
 when_number whens.AfterRevoke = 3
 
 abbrev pub full : Room
-full = record { left = 16 ∷ 16 ∷ 16 ∷ 16 ∷ [] }
+full = record { left = most_of_a_sort ∷ most_of_a_sort ∷ most_of_a_sort ∷ most_of_a_sort ∷ [] }
 
 -- one less, if there is one
 abbrev pub less : ℕ → Option ℕ
@@ -143,13 +144,13 @@ duty_at ts = do
 
 abbrev pub test_from : TestSort → Reads PlainTest
 test_from sorts.A ts = do
-  f ← formula_at 32 ts
+  f ← formula_at most_levels ts
   Ok (authorisation f.0, f.1)
 test_from sorts.B ts = do
   o ← duty_at ts
   Ok (duty o.0, o.1)
 test_from sorts.C ts = do
-  f ← formula_at 32 ts
+  f ← formula_at most_levels ts
   Ok (condition f.0, f.1)
 
 unfoldable pub pred_at : Room → Reads (PlainPredicate × Room)
@@ -171,7 +172,7 @@ update_at room ts = do
   a ← expect dot side.1
   attr ← name_at a
   b ← expect equal_sign attr.1
-  value ← expr_at 32 b
+  value ← expr_at most_levels b
   c ← expect semicolon value.1
   Ok ((record { when = when.0.0; side = side.0; attr = attr.0; value = value.0 }, when.0.1), c)
 

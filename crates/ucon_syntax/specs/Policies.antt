@@ -1,9 +1,11 @@
 -- Reading rights and whole policies.
-use Rattle.std.specs.Prelude.{◌≡◌, ℕ, nat_lt, if◌then◌else◌, List, [], ◌∷◌, length, Option, Some, None, option_and_then, Result, Ok, Err, codes, ⊤}
+use Rattle.std.specs.Prelude.{◌≡◌, ℕ, ◌+◌, ◌*◌, nat_lt, if◌then◌else◌, List, [], ◌∷◌, length, Option, Some, None, option_and_then}
+use Rattle.std.specs.Prelude.{Result, Ok, Err, codes, ⊤}
 use Rattle.std.specs.Result.{result_ok}
 use Rattle.ucon_model.specs.declared.policy.AttrDecl.{AttrDecl}
 use Rattle.ucon_model.specs.declared.policy.EnvDecl.{EnvDecl}
 use Rattle.ucon_model.specs.declared.policy.Policy.{Policy}
+use Rattle.ucon_model.specs.Limits.{most_of_a_sort, most_policy, most_rights, most_variables}
 use Rattle.ucon_model.specs.Plain.{Bytes, PlainPredicate, PlainUpdate, PlainRight, PlainPolicy}
 use Rattle.ucon_base.specs.Tokens.{Token, tokens_of, place_of, Flaw, unknown, too_long, misplaced, open_curly, close_curly}
 use Rattle.ucon_model.specs.Typing.{is_typed}
@@ -17,12 +19,13 @@ use Rattle.ucon_syntax.specs.Items.{full, attr_at, env_at, pred_at, update_at, b
 use Rattle.ucon_syntax.specs.declared.read.SyntaxFault.{SyntaxFault}
 use Rattle.ucon_syntax.specs.declared.read.SyntaxFault.TheVariants as faults
 
--- at most 16 of each phase
+-- of two phases
 unfoldable pub preds_at : Reads (List PlainPredicate)
-preds_at ts = items_at begins_pred pred_at 32 full ts
+preds_at ts = items_at begins_pred pred_at (2 * most_of_a_sort) full ts
 
+-- of four times
 unfoldable pub updates_at : Reads (List PlainUpdate)
-updates_at ts = items_at begins_update update_at 64 full ts
+updates_at ts = items_at begins_update update_at (4 * most_of_a_sort) full ts
 
 unfoldable pub right_at : Reads PlainRight
 right_at ts = do
@@ -34,15 +37,15 @@ right_at ts = do
   c ← expect close_curly updates.1
   Ok (record { name = name.0; preds = preds.0; updates = updates.0 }, c)
 
--- At most 16 of each side. The 33rd is one too many of its side, which its side word tells.
+-- Of two sides. One more than both have room for is one too many of its side, which its side word tells.
 unfoldable pub attrs_at : Reads (List AttrDecl)
-attrs_at ts = items_at (λ t. is_word t (codes "attr")) attr_at 33 full ts
+attrs_at ts = items_at (λ t. is_word t (codes "attr")) attr_at (2 * most_of_a_sort + 1) full ts
 
 unfoldable pub envs_at : Reads (List EnvDecl)
-envs_at ts = items_at (λ t. is_word t (codes "env")) (alone env_at) 32 tt ts
+envs_at ts = items_at (λ t. is_word t (codes "env")) (alone env_at) most_variables tt ts
 
 unfoldable pub rights_at : Reads (List PlainRight)
-rights_at ts = items_at (λ t. is_word t (codes "right")) (alone right_at) 64 tt ts
+rights_at ts = items_at (λ t. is_word t (codes "right")) (alone right_at) most_rights tt ts
 
 unfoldable pub policy_at : Reads PlainPolicy
 policy_at ts = do
@@ -74,7 +77,7 @@ placed text (Err h) = Err (fault_of (flaw_at (first h.1)) h.0 (place_of text (le
 
 -- the policy that a text gives, or the first fault at its place
 unfoldable pub reading_of : Bytes → Result PlainPolicy SyntaxFault
-reading_of text = if nat_lt 65536 (length text) then Err (faults.TooLong 65536) else placed text (whole_at (tokens_of text))
+reading_of text = if nat_lt most_policy (length text) then Err (faults.TooLong most_policy) else placed text (whole_at (tokens_of text))
 
 -- the policy, if it is well typed
 abbrev pub if_typed : PlainPolicy → Option PlainPolicy

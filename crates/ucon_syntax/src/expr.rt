@@ -9,11 +9,9 @@ ghost use Rattle.ucon_syntax.specs.Expressions.{place_at, factor_at, size_at, ro
 use crate::closing::{closed, ended};
 use crate::starts::{FactorStart, SumSign, factor_start, sum_sign};
 use ucon_base::Name;
+use ucon_model::limits::MOST_OPERANDS;
 use ucon_model::{Expr, Ref};
 use ucon_token::{Cause, Reader, Stop, Symbol, Token};
-
-/// The most operands of a chain.
-const MOST_OPERANDS: usize = 32;
 
 /// What joins the operands of a chain: a `*` the factors of a term, a sign the terms of a whole expression.
 #[derive(Clone, Copy)]

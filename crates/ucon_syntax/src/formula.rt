@@ -11,11 +11,9 @@ ghost use Rattle.ucon_syntax.specs.Formulas.{compare_at, unit_at, not_at, formul
 use crate::closing::{closed, ended};
 use crate::expr::read_expr;
 use crate::starts::{UnitStart, op_of, unit_start};
+use ucon_model::limits::MOST_OPERANDS;
 use ucon_model::{Formula, Op};
 use ucon_token::{Cause, Reader, Stop, Symbol, Token};
-
-/// The most operands of a chain.
-const MOST_OPERANDS: usize = 32;
 
 /// What joins the operands of a chain: the units of a conjunction, or the conjunctions of a whole formula.
 #[derive(Clone, Copy)]

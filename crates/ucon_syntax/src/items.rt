@@ -19,11 +19,9 @@ use crate::starts::{
     when_of,
 };
 use ucon_base::{Kind, Name};
+use ucon_model::limits::MOST_LEVELS;
 use ucon_model::{AttrDecl, EnvDecl, Form, Obligation, Phase, Predicate, Test, Update, When};
 use ucon_token::{Cause, Reader, Stop, Symbol, Token};
-
-/// The most levels that a formula or an expression may open.
-const MOST_LEVELS: usize = 32;
 
 /// One more item of this sort, and what room is then left.
 fn counted<S: Sort>(reader: &mut Reader, room: Room, sort: Option<S>) -> Result<(S, Room), Stop>

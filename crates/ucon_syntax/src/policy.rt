@@ -11,19 +11,18 @@ ghost use Rattle.ucon_syntax.specs.Policies.{right_at, policy_at, whole_at};
 use crate::closing::closed;
 use crate::list::{Item, items};
 use crate::room::Room;
+use ucon_model::limits::{MOST_OF_A_SORT, MOST_RIGHTS, MOST_VARIABLES};
 use ucon_model::{Policy, Right};
 use ucon_token::{Cause, Reader, Stop, Symbol, Token};
 
 /// One more than there may be: the last finds no room on its side.
-const MOST_ATTRIBUTES: usize = 33;
+const MOST_ATTRIBUTES: usize = 2 * MOST_OF_A_SORT + 1;
 
-const MOST_VARIABLES: usize = 32;
+/// Of two phases.
+const MOST_PREDICATES: usize = 2 * MOST_OF_A_SORT;
 
-const MOST_PREDICATES: usize = 32;
-
-const MOST_UPDATES: usize = 64;
-
-const MOST_RIGHTS: usize = 64;
+/// Of four times.
+const MOST_UPDATES: usize = 4 * MOST_OF_A_SORT;
 
 impl Item for Right {
     ghost Plain = { PlainRight };

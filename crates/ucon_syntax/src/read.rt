@@ -1,7 +1,7 @@
 //! Policies from texts.
 
 ghost use Rattle.std.specs.Prelude.{◌≡◌, ◌<◌, length, IfOk, IfErr};
-ghost use Rattle.ucon_model.specs.Limits.{IsWithin};
+ghost use Rattle.ucon_model.specs.Limits.{IsWithin, most_policy};
 ghost use Rattle.ucon_model.specs.Plain.{PlainPolicy};
 ghost use Rattle.ucon_model.specs.Spells.{Spells};
 ghost use Rattle.ucon_base.specs.Tokens.{place_of};
@@ -14,10 +14,8 @@ use crate::policy::whole;
 use std::alloc::Global;
 use ucon_base::NoMemory;
 use ucon_model::Policy;
+use ucon_model::limits::MOST_POLICY;
 use ucon_token::{Cause, Flaw, Reader, Stop};
-
-/// The most bytes of a text.
-const LONGEST: usize = 65536;
 
 /// Why a text is no policy. Places are byte offsets from 0.
 #[derive(Clone, Copy, Debug, PartialEq, Eq)]
@@ -26,7 +24,7 @@ pub enum SyntaxFault {
     UnknownByte(usize),
     /// No policy has this token after the tokens before it.
     Unexpected(usize),
-    /// A word, a number or a text passes its limit, or, at 65,536, the whole does.
+    /// A word, a number or a text passes its limit, or, at `MOST_POLICY`, the whole does.
     TooLong(usize),
     /// One level too many opens.
     TooDeep(usize),
@@ -54,10 +52,10 @@ fn fault(reader: &Reader, cause: Cause) -> SyntaxFault
 #[tactic(auto, unfolding(crate::specs::Policies::reading_of))]
 fn read(alloc: Global, text: &[u8]) -> Result<Policy, SyntaxFault>
     ensures read { Reading result text.now }
-    ensures too_long { 65536 < length text.now → result ≡ Err (SyntaxFault.TooLong 65536) }
+    ensures too_long { most_policy < length text.now → result ≡ Err (SyntaxFault.TooLong most_policy) }
 {
-    if text.len() > LONGEST {
-        return Err(SyntaxFault::TooLong(LONGEST));
+    if text.len() > MOST_POLICY {
+        return Err(SyntaxFault::TooLong(MOST_POLICY));
     }
     let mut reader = Reader::new(alloc, text);
     match whole(&mut reader) {
@@ -76,7 +74,7 @@ pub fn read_policy(alloc: Global, text: &[u8]) -> Result<Policy, SyntaxFault>
     ensures refuses { (f : SyntaxFault) → IsSyntaxFault text.now f → RefusedFor result f }
     ensures reading { Reading result text.now }
     // It is found before any memory is taken, so that out of memory can't stand in its place.
-    ensures too_long { 65536 < length text.now → result ≡ Err (SyntaxFault.TooLong 65536) }
+    ensures too_long { most_policy < length text.now → result ≡ Err (SyntaxFault.TooLong most_policy) }
 {
     read(alloc, text)
 }

@@ -4,10 +4,8 @@ ghost use Rattle.std.specs.Prelude.{◌≡◌, ◌<◌, ℕ};
 ghost use Rattle.ucon_syntax.specs.Items.{side_number, phase_number, when_number, full, take};
 
 use ucon_base::Side;
+use ucon_model::limits::MOST_OF_A_SORT;
 use ucon_model::{Phase, When};
-
-/// The most of one sort.
-const MOST: usize = 16;
 
 /// What items are counted by. There are at most four sorts.
 pub trait Sort: Copy {
@@ -62,11 +60,13 @@ pub struct Room {
 }
 
 impl Room {
-    /// Begins with room for 16 of each sort.
+    /// Begins with all the room of each sort.
     pub fn full() -> Room
         ensures { result ≡ full }
     {
-        Room { left: [MOST; 4] }
+        Room {
+            left: [MOST_OF_A_SORT; 4],
+        }
     }
 
     /// What is left with one more of this sort, if there is room.

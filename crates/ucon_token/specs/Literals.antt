@@ -1,5 +1,6 @@
 -- Reading literals.
 use Rattle.std.specs.Prelude.{ℕ, zero, suc, ℤ, neg_ℤ, List, [], ◌∷◌, ◌++◌, drop, Option, Some, None, Ok, Err, if◌then◌else◌}
+use Rattle.ucon_base.specs.Limits.{most_texts}
 use Rattle.ucon_base.specs.Value.{is_rising}
 use Rattle.ucon_base.specs.declared.value.Value.{Value}
 use Rattle.ucon_base.specs.declared.value.Value.TheVariants as values
@@ -57,7 +58,7 @@ texts_at (suc n) texts ts = member_at texts ts >>= λ more. behind_member (texts
 
 -- behind the `{` of a set
 unfoldable pub set_at : Reads (List Bytes)
-set_at ts = if is_symbol (first ts) close_curly then Ok ([], drop 1 ts) else texts_at 64 [] ts
+set_at ts = if is_symbol (first ts) close_curly then Ok ([], drop 1 ts) else texts_at most_texts [] ts
 
 abbrev pub literal_from : Option LiteralStart → Reads Value
 literal_from None ts = Err (Unexpected, ts)

@@ -9,9 +9,7 @@ ghost use Rattle.ucon_base.specs.Tokens.{begins_word, begin_of, token_from, unle
 ghost use Rattle.ucon_token.specs.Seen.{symbol_of, token_of};
 
 use crate::token::{Flaw, Symbol, Token};
-use ucon_base::{Int, Name, Text, is_digit, is_letter, is_word_byte, text_len};
-
-const LONGEST_TEXT: usize = 64;
+use ucon_base::{Int, MOST_TEXT_BYTES, Name, Text, is_digit, is_letter, is_word_byte, text_len};
 
 fn is_blank(b: u8) -> bool
     ensures { result ≡ is_blank b }
@@ -304,7 +302,7 @@ pub fn fault_from(bytes: &[u8]) -> &[u8]
     match bytes {
         [] => bytes,
         [b, rest @ ..] => {
-            if *b == b'"' && text_len(rest) <= LONGEST_TEXT {
+            if *b == b'"' && text_len(rest) <= MOST_TEXT_BYTES {
                 unless_closed(bytes, rest)
             } else {
                 bytes

@@ -1,6 +1,7 @@
 //! Sets of texts.
 
 ghost use Rattle.std.specs.Prelude.{◌≡◌, ◌<◌, [], ◌∷◌, ◌++◌, length, true, IfOk};
+ghost use Rattle.ucon_base.specs.Limits.{most_texts};
 ghost use Rattle.ucon_base.specs.Value.{is_rising};
 ghost use Rattle.ucon_token.specs.Reading.{Gives};
 ghost use Rattle.ucon_token.specs.Literals.{member_at, texts_at, set_at};
@@ -8,9 +9,7 @@ ghost use Rattle.ucon_token.specs.Literals.{member_at, texts_at, set_at};
 use crate::reader::Reader;
 use crate::stop::{Cause, Stop};
 use crate::token::Symbol;
-use ucon_base::{NoMemory, Text, TextSet};
-
-const MOST_TEXTS: usize = 64;
+use ucon_base::{MOST_TEXTS, NoMemory, Text, TextSet};
 
 /// Whether the texts still rise with this one behind them.
 #[tactic(auto, using(crate::proofs::Rises::rises_first, crate::proofs::Rises::rises_last))]
@@ -28,7 +27,7 @@ fn rises(set: &TextSet, text: &Text) -> bool
 #[tactic(auto, using(crate::proofs::Rises::with_text_last))]
 fn longer(reader: &Reader, set: &TextSet, text: &Text) -> Result<TextSet, NoMemory>
     requires rises { is_rising (set.now ++ text.now ∷ []) ≡ true }
-    requires room { length set.now < 64 }
+    requires room { length set.now < most_texts }
     ensures { IfOk result (λ s. s ≡ set.now ++ text.now ∷ []) }
 {
     Ok(set.with(reader.alloc, text)?)
@@ -38,7 +37,7 @@ fn longer(reader: &Reader, set: &TextSet, text: &Text) -> Result<TextSet, NoMemo
 #[tactic(auto, unfolding(crate::specs::Literals::member_at))]
 fn member(reader: &mut Reader, set: &TextSet) -> Result<TextSet, Stop>
     requires rising { is_rising set.now ≡ true }
-    requires room { length set.now < 64 }
+    requires room { length set.now < most_texts }
     ensures read { Gives (λ s. (s, reader.new.tokens)) result reader.new.tokens (member_at set.now reader.old.tokens) }
     ensures text { reader.new.text ≡ reader.old.text }
 {
@@ -54,7 +53,7 @@ fn member(reader: &mut Reader, set: &TextSet) -> Result<TextSet, Stop>
 }
 
 fn texts(reader: &mut Reader) -> Result<TextSet, Stop>
-    ensures read { Gives (λ s. (s, reader.new.tokens)) result reader.new.tokens (texts_at 64 [] reader.old.tokens) }
+    ensures read { Gives (λ s. (s, reader.new.tokens)) result reader.new.tokens (texts_at most_texts [] reader.old.tokens) }
     ensures text { reader.new.text ≡ reader.old.text }
 {
     let mut set = TextSet::empty(reader.alloc);
