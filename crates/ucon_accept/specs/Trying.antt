@@ -7,6 +7,7 @@ use Rattle.ucon_model.specs.declared.reply.Refusal.{Refusal}
 use Rattle.ucon_model.specs.declared.reply.Refusal.TheVariants.{NoRight, NoSubject, NoObject, FullSessions, FullAccessing}
 use Rattle.ucon_model.specs.Action.{Trace, tries}
 use Rattle.ucon_model.specs.Decision.{right_named}
+use Rattle.ucon_model.specs.Limits.{most_accessing, most_sessions}
 use Rattle.ucon_model.specs.OwnActions.{Own, refuse, tell, make, try_right}
 use Rattle.ucon_model.specs.Plain.{Bytes, PlainPolicy}
 use Rattle.ucon_model.specs.Readings.{in_force, sessions}
@@ -51,8 +52,8 @@ refusal_shown s u r o =
     if is_none (right_named s.policy.rights r) then Some NoRight else
     if is_none (entity_number s.tables sides.Subject u) then Some NoSubject else
     if is_none (entity_number s.tables sides.Object o) then Some NoObject else
-    if nat_le 1048576 (length s.tables.sessions) then Some FullSessions else
-    if nat_le 65536 (accessing_among s.tables.sessions) then Some FullAccessing else None
+    if nat_le most_sessions (length s.tables.sessions) then Some FullSessions else
+    if nat_le most_accessing (accessing_among s.tables.sessions) then Some FullAccessing else None
 
 -- what a state would give to read with the session of a try
 abbrev pub readings_with : Shown → Bytes → Bytes → Bytes → Readings

@@ -7,6 +7,7 @@ ghost use Rattle.ucon_state.specs.Shown.{shown};
 ghost use Rattle.ucon_accept.specs.Trying.{admin, refusal_shown, try_refusal};
 
 use ucon_base::{Int, Name, Side};
+use ucon_model::limits::{MOST_ACCESSING, MOST_SESSIONS};
 use ucon_model::{Caller, Refusal, SessionRow, SessionState, View};
 use ucon_state::{State, tables_keep_what_is_followed};
 
@@ -33,10 +34,10 @@ fn refusal_by_tables(state: &State, subject: &Name, right: &Name, object: &Name)
         return Some(Refusal::NoObject);
     }
     let counts = state.counts();
-    if counts.sessions >= 1_048_576 {
+    if counts.sessions >= MOST_SESSIONS {
         return Some(Refusal::FullSessions);
     }
-    if counts.accessing >= 65_536 {
+    if counts.accessing >= MOST_ACCESSING {
         return Some(Refusal::FullAccessing);
     }
     None

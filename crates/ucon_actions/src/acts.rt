@@ -3,6 +3,7 @@
 ghost use Rattle.std.specs.Prelude.{◌≡◌, ◌∷◌, ◌⊎◌, ◌<◌, length, true, IfErr, IfOk, IsSome, OnOk};
 ghost use Rattle.ucon_base.specs.declared.value.Side.TheVariants as sides;
 ghost use Rattle.ucon_model.specs.Action.{act};
+ghost use Rattle.ucon_model.specs.Limits.{most_acts};
 ghost use Rattle.ucon_model.specs.OwnActions.{do_act, names_act};
 ghost use Rattle.ucon_actions.specs.Gives.{Gives, Refuses, Unchanged};
 ghost use Rattle.ucon_actions.specs.Leads.{KeepsBase, Leads};
@@ -12,11 +13,9 @@ ghost use Rattle.ucon_state.specs.Tables.{entity_number, moment_in};
 use crate::outcome::{ActionFault, Outcome, require};
 use ucon_base::{Name, NoMemory, Side};
 use ucon_engine::{acts, has_entity, moment, names_act};
+use ucon_model::limits::MOST_ACTS;
 use ucon_model::{Head, Refusal};
 use ucon_state::{State, each_action_is_followed, tables_keep_what_is_followed};
-
-/// The most acts whose last moment is known.
-const MAX_ACTS: u32 = 1_048_576;
 
 /// An act is done now.
 fn perform(state: &mut State, subject: &Name, action: &Name, object: &Name) -> Result<(), NoMemory>
@@ -24,7 +23,7 @@ fn perform(state: &mut State, subject: &Name, action: &Name, object: &Name) -> R
     requires object { IsSome (entity_number (shown state.old).tables sides.Object object.now) }
     requires named { names_act (shown state.old).policy.rights action.now ≡ true }
     requires room { IsSome (moment_in (shown state.old).tables subject.now action.now object.now)
-        ⊎ (length (shown state.old).tables.acts < MAX_ACTS) }
+        ⊎ (length (shown state.old).tables.acts < most_acts) }
     ensures leads { OnOk result (Leads (shown state.old) (shown state.new) (λ P T. act subject.now action.now object.now ∷ T)) }
     ensures base { KeepsBase (shown state.old) (shown state.new) }
 {
@@ -52,7 +51,7 @@ pub fn do_act(
     )?;
     require(has_entity(state, Side::Object, object), Refusal::NoObject)?;
     require(names_act(state, action), Refusal::NoAct)?;
-    let room = acts(state) < MAX_ACTS || moment(state, subject, action, object).is_some();
+    let room = acts(state) < MOST_ACTS || moment(state, subject, action, object).is_some();
     require(room, Refusal::FullActs)?;
     perform(state, subject, action, object)?;
     Ok(Outcome::Made(Head::Ok))

@@ -1,6 +1,7 @@
 //! Entities come: `subject` and `object`.
 
 ghost use Rattle.std.specs.Prelude.{◌≡◌, ◌∷◌, ◌<◌, length, IfErr, IfOk, OnOk, None};
+ghost use Rattle.ucon_model.specs.Limits.{most_entities};
 ghost use Rattle.ucon_model.specs.OwnActions.{is_admin, no_entity, new_entity, full_entities, add_entity};
 ghost use Rattle.ucon_actions.specs.Gives.{Gives, Refuses, Unchanged};
 ghost use Rattle.ucon_actions.specs.Leads.{IsFollowing, KeepsBase, Leads};
@@ -10,6 +11,7 @@ ghost use Rattle.ucon_state.specs.Tables.{entities_of, entity_number};
 use crate::outcome::{ActionFault, Outcome, require};
 use ucon_base::{Name, NoMemory, Side};
 use ucon_engine::{entities, has_entity};
+use ucon_model::limits::MOST_ENTITIES;
 use ucon_model::{Caller, Head, Refusal};
 use ucon_state::{
     State, cells_are_of_one_attribute, each_action_is_followed, tables_keep_what_is_followed,
@@ -46,7 +48,7 @@ fn full_entities(side: Side) -> Refusal
 fn make(state: &mut State, side: Side, name: Name) -> Result<(), NoMemory>
     requires following { IsFollowing (shown state.old) }
     requires new { entity_number (shown state.old).tables side name ≡ None }
-    requires room { length (entities_of side (shown state.old).tables) < 16384 }
+    requires room { length (entities_of side (shown state.old).tables) < most_entities }
     ensures leads { OnOk result (Leads (shown state.old) (shown state.new) (λ P T. new_entity side name ∷ T)) }
     ensures base { KeepsBase (shown state.old) (shown state.new) }
 {
@@ -73,7 +75,7 @@ pub fn add_entity(
 {
     require(is_admin(caller), Refusal::NotAdmin)?;
     require(!has_entity(state, side, &name), Refusal::AlreadyThere)?;
-    require(entities(state, side) < 16384, full_entities(side))?;
+    require(entities(state, side) < MOST_ENTITIES, full_entities(side))?;
     make(state, side, name)?;
     Ok(Outcome::Made(Head::Ok))
 }

@@ -5,6 +5,7 @@ ghost use Rattle.ucon_base.specs.declared.value.Side.TheVariants as sides;
 ghost use Rattle.ucon_model.specs.declared.policy.When.TheVariants.{Before};
 ghost use Rattle.ucon_model.specs.declared.session.SessionRow.{SessionRow};
 ghost use Rattle.ucon_model.specs.declared.session.SessionState.TheVariants.{Requesting, Accessing};
+ghost use Rattle.ucon_model.specs.Limits.{most_accessing, most_sessions};
 ghost use Rattle.ucon_model.specs.Readings.{is_accessing_state, session};
 ghost use Rattle.ucon_model.specs.Action.{permit, deny, extended};
 ghost use Rattle.ucon_model.specs.Decision.{right_named, verdict};
@@ -24,18 +25,13 @@ use std::alloc::Global;
 use ucon_base::{Name, NoMemory, Side};
 use ucon_engine::{accessing, find_entity, find_right, session, sessions};
 use ucon_eval::verdict;
+use ucon_model::limits::{MOST_ACCESSING, MOST_SESSIONS};
 use ucon_model::{
     Caller, Head, Refusal, SessionRow, SessionState, Verdict, View, When,
     actions_are_done_in_order, the_least_failing_is_found, typed_tests_make_no_set,
     updates_write_their_targets, writes_leave_sessions,
 };
 use ucon_state::{State, each_action_is_followed, tables_keep_what_is_followed};
-
-/// The most sessions there are in all.
-const MAX_SESSIONS: u32 = 1_048_576;
-
-/// The most uses that go on at once.
-const MAX_ACCESSING: u32 = 65_536;
 
 /// The session, if it is there and the caller's own.
 fn own_session(state: &State, caller: Caller, n: u32) -> Result<SessionRow, Refusal>
@@ -89,7 +85,7 @@ fn deny(state: &mut State, n: u32, label: Name) -> Result<(), NoMemory>
 fn permit(alloc: Global, state: &mut State, n: u32) -> Result<(), NoMemory>
     requires following { IsFollowing (shown state.old) }
     requires requesting { IsIn (shown state.old).tables n Requesting }
-    requires room { accessing_among (shown state.old).tables.sessions < 65536 }
+    requires room { accessing_among (shown state.old).tables.sessions < most_accessing }
     ensures leads { OnOk result (Leads (shown state.old) (shown state.new) (λ P T. extended T (session_writes P n Before T ++ permit n ∷ []))) }
     ensures base { KeepsBase (shown state.old) (shown state.new) }
 {
@@ -106,7 +102,7 @@ fn permit(alloc: Global, state: &mut State, n: u32) -> Result<(), NoMemory>
 fn decide(alloc: Global, state: &mut State, n: u32) -> Result<Head, NoMemory>
     requires following { IsFollowing (shown state.old) }
     requires requesting { IsIn (shown state.old).tables n Requesting }
-    requires room { accessing_among (shown state.old).tables.sessions < 65536 }
+    requires room { accessing_among (shown state.old).tables.sessions < most_accessing }
     ensures made { IfOk result (λ head. AfterEach (shown state.old) (λ P T. Makes head (shown state.new) P T (decide P T n))) }
     ensures base { KeepsBase (shown state.old) (shown state.new) }
 {
@@ -141,8 +137,8 @@ fn request(
     requires right { IsSome (right_named (shown state.old).policy.rights (right_name state.old right)) }
     requires subject { IsSome (entity_number (shown state.old).tables sides.Subject (subject_name state.old subject)) }
     requires object { IsSome (entity_number (shown state.old).tables sides.Object (object_name state.old object)) }
-    requires few { length (shown state.old).tables.sessions < MAX_SESSIONS }
-    requires room { accessing_among (shown state.old).tables.sessions < 65536 }
+    requires few { length (shown state.old).tables.sessions < most_sessions }
+    requires room { accessing_among (shown state.old).tables.sessions < most_accessing }
     ensures made { IfOk result (λ head. AfterEach (shown state.old) (λ P T. Makes head (shown state.new) P T
         (requested P T caller (subject_name state.old subject) (right_name state.old right) (object_name state.old object)))) }
     ensures base { KeepsBase (shown state.old) (shown state.new) }
@@ -171,8 +167,8 @@ pub fn try_right(
     let right = find_right(state, right).ok_or(Refusal::NoRight)?;
     let subject = find_entity(state, Side::Subject, subject).ok_or(Refusal::NoSubject)?;
     let object = find_entity(state, Side::Object, object).ok_or(Refusal::NoObject)?;
-    require(sessions(state) < MAX_SESSIONS, Refusal::FullSessions)?;
-    require(accessing(state) < MAX_ACCESSING, Refusal::FullAccessing)?;
+    require(sessions(state) < MOST_SESSIONS, Refusal::FullSessions)?;
+    require(accessing(state) < MOST_ACCESSING, Refusal::FullAccessing)?;
     let head = request(alloc, state, caller, right, subject, object)?;
     Ok(Outcome::Made(head))
 }
@@ -211,7 +207,7 @@ pub fn try_again(
     require(!lacks_right(state, n), Refusal::NoRight)?;
     let row = own_session(state, caller, n)?;
     require(is_requesting(row.state), Refusal::NotRequesting)?;
-    require(accessing(state) < MAX_ACCESSING, Refusal::FullAccessing)?;
+    require(accessing(state) < MOST_ACCESSING, Refusal::FullAccessing)?;
     let head = decide(alloc, state, n)?;
     Ok(Outcome::Made(head))
 }

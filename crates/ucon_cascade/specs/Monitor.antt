@@ -1,11 +1,12 @@
 -- What the indexed monitor follows.
-use Rattle.std.specs.Prelude.{◌≡◌, ℕ, ℤ, false, List, [], Option}
+use Rattle.std.specs.Prelude.{◌≡◌, ◌+◌, ℕ, ℤ, false, List, [], Option}
 use Rattle.ucon_actions.specs.Gives.{Makes, is_amendment}
 use Rattle.ucon_actions.specs.Leads.{KeepsBase}
 use Rattle.ucon_model.specs.declared.command.Caller.{Caller}
 use Rattle.ucon_model.specs.declared.command.Command.{Command}
 use Rattle.ucon_model.specs.declared.command.Entry.{Entry}
 use Rattle.ucon_model.specs.declared.reply.Head.{Head}
+use Rattle.ucon_model.specs.Limits.{most_sessions}
 use Rattle.ucon_model.specs.Plain.{PlainPolicy}
 use Rattle.ucon_model.specs.Action.{Trace}
 use Rattle.ucon_model.specs.Block.{after}
@@ -40,7 +41,7 @@ pub record IsReady (m : Monitor) (P : PlainPolicy) (T : Trace) : Type 0 where
   pub settled : IsSettled (shown m.state)
   pub kept : IsKept m.readers
   pub timers_kept : AreKept m.timers
-  pub limit : m.work.limit ≡ 1048577
+  pub limit : m.work.limit ≡ most_sessions + 1
   pub no_work : m.work.members ≡ []
 
 -- A command's own actions were made, and the head tells them: the state that they led from, with these readers, firsts and deadlines, stood
@@ -62,7 +63,7 @@ pub record GoesBack (m : Monitor) (P : PlainPolicy) (T : Trace) : Type 0 where
   pub was : List (Option ℤ)
   pub timers_undone : TimersGive m.timers was
   pub stands : Stands (given_back (shown m.state)) stood first was P T
-  pub limit : m.work.limit ≡ 1048577
+  pub limit : m.work.limit ≡ most_sessions + 1
 
 -- undoing gives what stands for some trace
 pub record MayGoBack (m : Monitor) : Type 0 where

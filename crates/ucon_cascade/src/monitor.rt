@@ -13,6 +13,7 @@ ghost use Rattle.ucon_model.specs.declared.command.Caller.{Caller};
 ghost use Rattle.ucon_model.specs.Action.{Action, Trace, extended};
 ghost use Rattle.ucon_model.specs.Block.{reply as reply_to};
 ghost use Rattle.ucon_model.specs.History.{changes};
+ghost use Rattle.ucon_model.specs.Limits.{most_sessions};
 ghost use Rattle.ucon_model.specs.Plain.{PlainPolicy};
 ghost use Rattle.ucon_model.specs.Settle.{revoked_in, settle};
 ghost use Rattle.ucon_model.specs.Views.{reply_of};
@@ -184,7 +185,7 @@ impl Monitor {
             command.now head.now }
         requires kept { IsKept self.old.readers }
         requires timers_kept { AreKept self.old.timers }
-        requires limit { self.old.work.limit ≡ 1048577 }
+        requires limit { self.old.work.limit ≡ most_sessions + 1 }
         requires no_work { self.old.work.members ≡ [] }
         ensures leads { OnOk result (Leads (shown self.old.state) (shown self.new.state) (λ P T. extended T (settle P T))) }
         ensures revoked { IfOk result (λ revoked. AfterEach (shown self.old.state) (λ P T. revoked.items ≡ revoked_in (settle P T))) }

@@ -4,6 +4,7 @@
 ghost use Rattle.std.specs.Prelude.{◌≡◌, ◌≢◌, ◌↔◌, ◌⊎◌, ◌+◌, ◌-◌, ◌^◌, ◌≤◌, ◌∷◌, [], ◌++◌, ℕ, ℤ, true, false, min, Option, Some, IfNone, IfOk, IfSome, OnOk, List};
 ghost use Rattle.std.specs.List.{Contains};
 ghost use Rattle.ucon_model.specs.Action.{extended};
+ghost use Rattle.ucon_model.specs.Limits.{most_sessions};
 ghost use Rattle.ucon_model.specs.Settle.{fails_at, least_failing, revocation, settle, revoked_in};
 ghost use Rattle.ucon_actions.specs.Leads.{AfterEach, IsFollowing, KeepsBase, Leads};
 ghost use Rattle.ucon_cascade.specs.Cascading.{IsWork};
@@ -138,7 +139,7 @@ fn revoke_next(
     requires fails { AfterEach (shown state.old) (λ P T. fails_at P T n ≡ Some label) }
     requires work { IsWork (shown state.old) (first_of readers.old) (n ∷ work.old.members) }
     requires exact { IsExact (shown state.old) (readers_at readers.old) }
-    requires limit { work.old.limit ≡ 1048577 }
+    requires limit { work.old.limit ≡ most_sessions + 1 }
     ensures leads { OnOk result (Leads (shown state.old) (shown state.new) (λ P T. extended T (revocation P T (n, label)))) }
     ensures revoked { OnOk result (revoked.new.items ≡ revoked.old.items ++ record { session = n; label = label } ∷ []) }
     ensures work { OnOk result (IsWork (shown state.new) (first_of readers.new) work.new.members) }
@@ -182,7 +183,7 @@ pub fn settle(
     requires following { IsFollowing (shown state.old) }
     requires work { IsWork (shown state.old) (first_of readers.old) work.old.members }
     requires exact { IsExact (shown state.old) (readers_at readers.old) }
-    requires limit { work.old.limit ≡ 1048577 }
+    requires limit { work.old.limit ≡ most_sessions + 1 }
     ensures leads { OnOk result (Leads (shown state.old) (shown state.new) (λ P T. extended T (settle P T))) }
     ensures revoked { IfOk result (λ revoked. AfterEach (shown state.old) (λ P T. revoked.items ≡ revoked_in (settle P T))) }
     ensures exact { OnOk result (IsExact (shown state.new) (readers_at readers.new)) }

@@ -10,6 +10,7 @@ use Rattle.ucon_model.specs.declared.policy.EnvDecl.{EnvDecl}
 use Rattle.ucon_model.specs.declared.session.SessionRow.{SessionRow}
 use Rattle.ucon_model.specs.declared.session.SessionState.{SessionState}
 use Rattle.ucon_model.specs.declared.session.SessionState.TheVariants.{Accessing}
+use Rattle.ucon_model.specs.Limits.{most_accessing, most_acts, most_entities, most_sessions}
 use Rattle.ucon_model.specs.Plain.{Bytes}
 use Rattle.ucon_model.specs.Readings.{attrs_of}
 use Rattle.ucon_state.specs.Held.{Held}
@@ -45,9 +46,9 @@ abbrev pub sessions_to : (ℕ → Option SessionRow) → ℕ → List SessionRow
 sessions_to session zero = []
 sessions_to session (suc n) = sessions_to session n ++ one_session (session (suc n))
 
--- where it is accessing, fewer than 65,536 of those before it are
+-- where it is accessing, there is room for it behind those before it that are
 abbrev pub HasRoomBehind : List SessionRow → SessionState → Type 0
-HasRoomBehind before Accessing = accessing_among before < 65536
+HasRoomBehind before Accessing = accessing_among before < most_accessing
 HasRoomBehind before state = ⊤
 
 -- a session's entities are there, it started by now, and it has no start if it was never permitted
@@ -65,8 +66,8 @@ pub record IsOrderly (h : Held) : Type 0 where
       → slice_get (h.names side) k ≡ Some e → slice_get (attrs_of h.policy side) i ≡ Some d
       → IsSomeAnd (h.attribute side e d.name) (λ v. IsTrue (admits d.kind v))
   pub once : (side : Side) (k : ℕ) (e : Bytes) → slice_get (h.names side) k ≡ Some e → find (bytes_eq e) (take k (h.names side)) ≡ None
-  pub few_entities : (side : Side) → length (h.names side) ≤ 16384
+  pub few_entities : (side : Side) → length (h.names side) ≤ most_entities
   pub acts : (k : ℕ) (a : Bytes × Bytes × Bytes) → slice_get h.acts k ≡ Some a → IsActInOrder h k a
-  pub few_acts : length h.acts ≤ 1048576
+  pub few_acts : length h.acts ≤ most_acts
   pub sessions : (n : ℕ) → n < h.sessions → IsSomeAnd (h.session (suc n)) (IsSessionInOrder h n)
-  pub few_sessions : h.sessions ≤ 1048576
+  pub few_sessions : h.sessions ≤ most_sessions

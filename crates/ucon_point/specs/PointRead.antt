@@ -6,6 +6,7 @@ use Rattle.std.specs.Str.{bytes_eq}
 use Rattle.ucon_base.specs.declared.value.Value.TheVariants.{Int}
 use Rattle.ucon_base.specs.Elements.{Each}
 use Rattle.ucon_model.specs.CommandLine.{integer_in}
+use Rattle.ucon_model.specs.Limits.{most_policy}
 use Rattle.ucon_model.specs.Output.{cut_at}
 use Rattle.ucon_model.specs.Payload.{◌>>=◌}
 use Rattle.ucon_model.specs.Plain.{Bytes, PlainPolicy}
@@ -91,11 +92,11 @@ policy_told place text bytes = do
   Q ← ok_or (accepted text) place
   Ok ((text, Q), rest)
 
--- The same of the first n bytes, and what stands behind the newline; the place is that of the line before. No text of a policy has more than
--- 65,536 bytes.
+-- The same of the first n bytes, and what stands behind the newline; the place is that of the line before. No text of a policy is longer than
+-- the longest.
 unfoldable pub text_at : ℕ → ℕ → ℕ → Bytes → Result ((Bytes × PlainPolicy) × Bytes) ℕ
 text_at total place n bytes =
-    if nat_lt 65536 n then Err place else
+    if nat_lt most_policy n then Err place else
     if nat_le (length bytes) n then Err total else
     policy_told place (take n bytes) (drop n bytes)
 

@@ -9,6 +9,7 @@ use Rattle.ucon_base.specs.NameBytes.{is_name}
 use Rattle.ucon_base.specs.Reading.{value_read}
 use Rattle.ucon_base.specs.Spelling.{value_spelling}
 use Rattle.ucon_model.specs.CommandLine.{name_in, value_in, integer_in}
+use Rattle.ucon_model.specs.Limits.{most_clients}
 use Rattle.ucon_model.specs.Output.{cut_at}
 use Rattle.ucon_model.specs.Payload.{caller_read}
 use Rattle.ucon_model.specs.Plain.{Bytes}
@@ -31,20 +32,20 @@ row_words (Session s) = session_words s
 abbrev pub row_spelling : Row → Bytes
 row_spelling row = join_with_byte 32 (row_words row)
 
--- a value that its spelling gives back, as each integer in range, each text and each set of at most 64 texts
+-- a value that its spelling gives back, as each integer in range, each text and each set of texts
 abbrev pub IsSpelled : Value → Type 0
 IsSpelled v = value_read (value_spelling v) ≡ Ok v
 
 abbrev pub AreNames : Bytes → Bytes → Bytes → Type 0
 AreNames a b c = IsTrue (is_name a) × IsTrue (is_name b) × IsTrue (is_name c)
 
--- a row of names, values and one of the 64 clients
+-- a row of names, values and one of the clients
 abbrev pub IsRow : Row → Type 0
 IsRow (Variable name v) = IsTrue (is_name name) × IsSpelled v
 IsRow (Entity side name) = IsTrue (is_name name)
 IsRow (Attribute name v) = IsTrue (is_name name) × IsSpelled v
 IsRow (Act subject action object moment) = AreNames subject action object × IsSpelled (Int moment)
-IsRow (Session s) = (s.caller.0 < 64) × AreNames s.right s.subject s.object × IsSpelled (Int s.start)
+IsRow (Session s) = (s.caller.0 < most_clients) × AreNames s.right s.subject s.object × IsSpelled (Int s.start)
 
 -- ---- what is read
 

@@ -9,6 +9,7 @@ use Rattle.ucon_model.specs.declared.session.SessionState.{SessionState}
 use Rattle.ucon_model.specs.declared.session.SessionState.TheVariants.{Requesting, Denied, Accessing}
 use Rattle.ucon_model.specs.Action.{env}
 use Rattle.ucon_model.specs.Fitting.{AttributeAdmits, VariableAdmits}
+use Rattle.ucon_model.specs.Limits.{most_accessing, most_acts, most_entities, most_sessions}
 use Rattle.ucon_model.specs.Plain.{Bytes, PlainPolicy}
 use Rattle.ucon_state.specs.declared.held.ActRow.{ActRow}
 use Rattle.ucon_state.specs.declared.state.State.{State}
@@ -66,7 +67,7 @@ is_past t moment = int_le (pos 0) moment && int_le moment t.tick
 
 -- whether one more session may be in this state
 abbrev pub has_room_in : Tables → SessionState → Bool
-has_room_in t Accessing = nat_lt (accessing_among t.sessions) 65536
+has_room_in t Accessing = nat_lt (accessing_among t.sessions) most_accessing
 has_room_in t state = true
 
 abbrev pub is_zero : ℤ → Bool
@@ -82,16 +83,16 @@ starts_right state start = true
 -- an act that isn't there
 abbrev pub may_put_act : Tables → ActRow → Bool
 may_put_act t a =
-    nat_lt (length t.acts) 1048576 && (are_there t a.subject a.object && (is_past t a.moment && is_none (moment_in t a.subject a.action a.object)))
+    nat_lt (length t.acts) most_acts && (are_there t a.subject a.object && (is_past t a.moment && is_none (moment_in t a.subject a.action a.object)))
 
 abbrev pub may_put_session : Tables → SessionRow → Bool
 may_put_session t s =
-    nat_lt (length t.sessions) 1048576 && (has_room_in t s.state && (are_there t s.subject s.object &&
+    nat_lt (length t.sessions) most_sessions && (has_room_in t s.state && (are_there t s.subject s.object &&
     (is_past t s.start && starts_right s.state s.start)))
 
 -- an entity that isn't there
 abbrev pub may_put_entity : Tables → Side → Bytes → Bool
-may_put_entity t side name = is_none (entity_number t side name) && nat_lt (length (entities_of side t)) 16384
+may_put_entity t side name = is_none (entity_number t side name) && nat_lt (length (entities_of side t)) most_entities
 
 -- whether a row may be put; which values may come is told by their order
 abbrev pub may_put : Tables → Row → Bool

@@ -14,10 +14,8 @@ use std::alloc::Global;
 use ucon_base::{Int, NoMemory, Rows};
 use ucon_check::check;
 use ucon_model::Checked;
+use ucon_model::limits::MOST_POLICY;
 use ucon_syntax::{SyntaxFault, read_policy};
-
-/// No text of a policy has more.
-const MOST_BYTES: u64 = 65536;
 
 /// A policy, and its text.
 #[derive(Drop)]
@@ -96,7 +94,7 @@ fn text_at(
         (IsBadAt (text_at total place n bytes.now)) }
     ensures within { IfOk result (λ p. length p.1.now ≤ length bytes.now) }
 {
-    if n > MOST_BYTES {
+    if n > MOST_POLICY as u64 {
         return Err(PointFault::BadPlace(place));
     }
     if bytes.len() as u64 <= n {

@@ -14,10 +14,8 @@ use crate::order::Stage;
 use crate::row::Row;
 use ucon_base::{Name, NoMemory, Side, Value};
 use ucon_model::SessionRow;
+use ucon_model::limits::MOST_ENTITIES;
 use ucon_state::{ActRow, State};
-
-/// The most entities of a side.
-const MOST_ENTITIES: u32 = 16384;
 
 /// Puts a row that comes at a stage into a state, and says whether it may be put there. Unless it was put, the state is as it was.
 pub fn put_row(state: &mut State, stage: Stage, row: Row) -> Result<bool, NoMemory>

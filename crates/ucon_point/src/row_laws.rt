@@ -13,7 +13,7 @@ ghost use Rattle.ucon_point.specs.RowText.{IsRow, IsSpelled, row_read, row_spell
 use ucon_base::values_are_read_back;
 use ucon_model::texts_lack_bytes;
 
-/// Each row's line is read as the row. Bytes that are read are the line of the row read, which is of names, values and one of the 64 clients. No
+/// Each row's line is read as the row. Bytes that are read are the line of the row read, which is of names, values and one of the clients. No
 /// row's line has a newline.
 pub fn rows_are_read_back()
     ensures written { (row : Row) → IsRow row → row_read (row_spelling row) ≡ Some row }

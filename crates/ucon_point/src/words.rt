@@ -13,6 +13,7 @@ use crate::lines::state_word;
 use itoa::Buffer;
 use std::alloc::Global;
 use ucon_base::{Name, NoMemory, Value, ValueFault};
+use ucon_model::limits::MOST_CLIENTS;
 use ucon_model::{Caller, SessionState};
 
 const STATES: [SessionState; 5] = [
@@ -71,7 +72,7 @@ pub fn caller_in(bytes: &[u8]) -> Option<Caller>
     ensures { result ≡ caller_read bytes.now }
 {
     match count_in(bytes) {
-        Some(n) if n < 64 => Some(Caller(n as u8)),
+        Some(n) if n < MOST_CLIENTS as u64 => Some(Caller(n as u8)),
         _ => None,
     }
 }

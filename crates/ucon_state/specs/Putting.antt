@@ -4,6 +4,7 @@ use Rattle.ucon_base.specs.declared.value.Side.TheVariants as sides
 use Rattle.ucon_model.specs.declared.session.SessionRow.{SessionRow}
 use Rattle.ucon_model.specs.declared.session.SessionState.{SessionState}
 use Rattle.ucon_model.specs.declared.session.SessionState.TheVariants.{Requesting, Denied, Accessing}
+use Rattle.ucon_model.specs.Limits.{most_accessing, most_acts, most_sessions}
 use Rattle.ucon_model.specs.Plain.{Bytes}
 use Rattle.ucon_state.specs.declared.act.Act.{Act}
 use Rattle.ucon_state.specs.declared.held.ActRow.{ActRow}
@@ -31,7 +32,7 @@ pub record IsPast (t : Tables) (moment : ℤ) : Type 0 where
 -- The act can be put behind the others: it isn't there, there is room for one more, its entities are there, and it was done by now.
 pub record MayPutAct (t : Tables) (row : ActRow) : Type 0 where
   pub new : moment_in t row.subject row.action row.object ≡ None
-  pub room : length t.acts < 1048576
+  pub room : length t.acts < most_acts
   pub entities : EntitiesAreThere t row.subject row.object
   pub past : IsPast t row.moment
 
@@ -43,13 +44,13 @@ StartsAtZero state start = ⊤
 
 -- if a session in this state is accessing, there is room for one more that is
 abbrev pub HasRoomIn : Tables → SessionState → Type 0
-HasRoomIn t Accessing = accessing_among t.sessions < 65536
+HasRoomIn t Accessing = accessing_among t.sessions < most_accessing
 HasRoomIn t state = ⊤
 
 -- The session can be put behind the others: there is room for one more, its entities are there, and it started by now. Nothing is asked
 -- of its right: a session keeps its right when an amendment drops it.
 pub record MayPutSession (t : Tables) (row : SessionRow) : Type 0 where
-  pub room : length t.sessions < 1048576
+  pub room : length t.sessions < most_sessions
   pub room_in_state : HasRoomIn t row.state
   pub entities : EntitiesAreThere t row.subject row.object
   pub past : IsPast t row.start

@@ -3,6 +3,7 @@ use Rattle.std.specs.Prelude.{◌≡◌, ◌≤◌, ◌<◌, ◌+◌, ◌*◌, �
 use Rattle.std.specs.Str.{bytes_eq}
 use Rattle.ucon_base.specs.declared.value.Side.{Side}
 use Rattle.ucon_base.specs.declared.value.Side.TheVariants as sides
+use Rattle.ucon_model.specs.Limits.{most_acts, most_entities, most_of_a_sort, most_sessions}
 use Rattle.ucon_model.specs.Plain.{Bytes, PlainPolicy, PlainRight}
 use Rattle.ucon_model.specs.Decision.{right_named}
 use Rattle.ucon_state.specs.declared.change.Undo.{Undo}
@@ -15,13 +16,13 @@ use Rattle.ucon_state.specs.Undo.{all_undone, policy_undone}
 abbrev pub CellsAreThere : {S : Type 0} → PlainPolicy → TablesOf S → Side → Type 0
 CellsAreThere P t side = (e : Bytes × ℕ) → Contains (entities_of side t) e → e.1 + length (attrs_of P side) ≤ length t.cells
 
--- the limits hold, no entity has more than 16 cells, each declared variable has its position, and each entity its cells
+-- the limits hold, no entity has more cells than a side may have attributes, each declared variable has its position, and each entity its cells
 pub record IsSound {S : Type 0} (P : PlainPolicy) (t : TablesOf S) : Type 0 where
-  pub subjects : length t.subjects ≤ 16384
-  pub objects : length t.objects ≤ 16384
-  pub acts : length t.acts ≤ 1048576
-  pub sessions : length t.sessions ≤ 1048576
-  pub cells : length t.cells ≤ 16 * (length t.subjects + length t.objects)
+  pub subjects : length t.subjects ≤ most_entities
+  pub objects : length t.objects ≤ most_entities
+  pub acts : length t.acts ≤ most_acts
+  pub sessions : length t.sessions ≤ most_sessions
+  pub cells : length t.cells ≤ most_of_a_sort * (length t.subjects + length t.objects)
   pub variables : length t.variables ≡ length P.envs
   pub subject_cells : CellsAreThere P t sides.Subject
   pub object_cells : CellsAreThere P t sides.Object

@@ -2,6 +2,7 @@
 
 ghost use Rattle.std.specs.Prelude.{◌≡◌, ◌≤◌, ◌<◌, ◌^◌, length, IfOk, map};
 ghost use Rattle.ucon_model.specs.Checked.{checked_policy};
+ghost use Rattle.ucon_model.specs.Limits.{most_of_a_sort};
 ghost use Rattle.ucon_state.specs.Applied.{defaults_of};
 
 use std::alloc::{AllocError, Global};
@@ -11,7 +12,7 @@ use ucon_model::Checked;
 /// The defaults of the attributes of a side.
 pub fn attr_defaults(alloc: Global, checked: &Checked, side: Side) -> Result<Vec<Value>, NoMemory>
     ensures defaults { IfOk result (λ vs. vs.items ≡ defaults_of (checked_policy checked.now) side) }
-    ensures few { IfOk result (λ vs. length vs.items ≤ 16) }
+    ensures few { IfOk result (λ vs. length vs.items ≤ most_of_a_sort) }
 {
     let mut defaults = Vec::new(alloc);
     for decl in checked.policy().attrs.slice() {

@@ -2,6 +2,7 @@
 
 ghost use Rattle.std.specs.Prelude.{◌≡◌, ◌↔◌, ◌≤◌, ℕ, List, [], ◌∷◌, length, Some, false};
 ghost use Rattle.ucon_base.specs.declared.value.Side.{Side};
+ghost use Rattle.ucon_model.specs.Limits.{most_sessions};
 ghost use Rattle.ucon_model.specs.Plain.{Bytes, PlainPolicy};
 ghost use Rattle.ucon_model.specs.Action.{Action, Trace, extended};
 ghost use Rattle.ucon_model.specs.Readings.{in_force};
@@ -59,9 +60,9 @@ pub fn cells_are_of_one_attribute()
         → cell_of s.policy s.tables side name attr ≡ Some cell → cell_of s.policy (applied s.policy a s.tables) side name attr ≡ Some cell }
 {}
 
-/// A state has at most 1,048,576 sessions.
+/// A state has at most `MOST_SESSIONS` sessions.
 pub fn sessions_are_few()
-    ensures { (s : State) → length (shown s).tables.sessions ≤ 1048576 }
+    ensures { (s : State) → length (shown s).tables.sessions ≤ most_sessions }
 {}
 
 /// The tables after a legal trace keep it.

@@ -8,6 +8,7 @@ ghost use Rattle.ucon_state.specs.Tables.{Tables, accessing_among};
 use crate::held::ActRow;
 use crate::state::State;
 use ucon_base::{Int, Name, Side};
+use ucon_model::limits::{MOST_ACCESSING, MOST_ACTS, MOST_SESSIONS};
 use ucon_model::{SessionRow, SessionState};
 
 impl State {
@@ -16,7 +17,7 @@ impl State {
         ensures { IsTrue result ↔ MayPutAct (shown self.now).tables row.now }
     {
         let last = self.tables.moment(&row.subject, &row.action, &row.object);
-        self.counts().acts < 1_048_576
+        self.counts().acts < MOST_ACTS
             && self.are_there(&row.subject, &row.object)
             && self.is_past(row.moment)
             && last.is_none()
@@ -27,7 +28,7 @@ impl State {
         ensures { IsTrue result ↔ MayPutSession (shown self.now).tables row.now }
     {
         let counts = self.counts();
-        if counts.sessions >= 1_048_576 {
+        if counts.sessions >= MOST_SESSIONS {
             return false;
         }
         if !has_room_in(row.state, counts.accessing) {
@@ -62,7 +63,7 @@ fn has_room_in(state: SessionState, accessing: u32) -> bool
     ensures { (t : Tables) → accessing ≡ accessing_among t.sessions → IsTrue result ↔ HasRoomIn t state }
 {
     match state {
-        SessionState::Accessing => accessing < 65_536,
+        SessionState::Accessing => accessing < MOST_ACCESSING,
         _ => true,
     }
 }

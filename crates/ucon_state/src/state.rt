@@ -7,6 +7,7 @@ ghost use Rattle.ucon_base.specs.Admits.{admits};
 ghost use Rattle.ucon_model.specs.Action as actions;
 ghost use Rattle.ucon_model.specs.Checked.{checked_policy};
 ghost use Rattle.ucon_model.specs.Decision.{right_named};
+ghost use Rattle.ucon_model.specs.Limits.{most_acts, most_entities, most_sessions};
 ghost use Rattle.ucon_model.specs.Plain.{Bytes};
 ghost use Rattle.ucon_model.specs.Readings.{declared_attr, declared_env, env_position};
 ghost use Rattle.ucon_model.specs.Views.{policy_of, right_of};
@@ -109,7 +110,7 @@ impl State {
     /// Adds an entity, and gives its number. Its attributes have their defaults.
     pub fn add_entity(&mut self, side: Side, name: Name) -> Result<u32, NoMemory>
         requires new { entity_number (shown self.old).tables side name ≡ None }
-        requires room { length (entities_of side (shown self.old).tables) < 16384 }
+        requires room { length (entities_of side (shown self.old).tables) < most_entities }
         ensures ok { OnOk result (shown self.new
             ≡ changed_to (shown self.old) (with_entity (shown self.old).policy (shown self.old).tables side name)) }
         ensures number { IfOk result (λ n. n ≡ length (entities_of side (shown self.old).tables)) }
@@ -162,7 +163,7 @@ impl State {
 
     /// An act is done now: its moment is the tick.
     pub fn add_act(&mut self, subject: &Name, action: &Name, object: &Name) -> Result<(), NoMemory>
-        requires { IsSome (moment_in (shown self.old).tables subject.now action.now object.now) ⊎ (length (shown self.old).tables.acts < 1048576) }
+        requires { IsSome (moment_in (shown self.old).tables subject.now action.now object.now) ⊎ (length (shown self.old).tables.acts < most_acts) }
         ensures ok { OnOk result (shown self.new ≡ changed_by (shown self.old) (actions.act subject.now action.now object.now)) }
         ensures err { OnErr result (shown self.new ≡ shown self.old) }
     {
@@ -184,7 +185,7 @@ impl State {
         subject: u32,
         object: u32,
     ) -> Result<u32, NoMemory>
-        requires few { length (shown self.old).tables.sessions < 1048576 }
+        requires few { length (shown self.old).tables.sessions < most_sessions }
         requires there { AreThere self.old right subject object }
         ensures ok { OnOk result (shown self.new
             ≡ changed_by (shown self.old) (actions.tries (length (shown self.old).tables.sessions + 1) caller
@@ -204,7 +205,7 @@ impl State {
 
     /// Adds a session with these numbers, and gives its own, from 1.
     fn push_session(&mut self, session: Session) -> Result<u32, NoMemory>
-        requires few { length (shown self.old).tables.sessions < 1048576 }
+        requires few { length (shown self.old).tables.sessions < most_sessions }
         requires there { AreThere self.old session.right session.subject session.object }
         ensures ok { OnOk result (shown self.new ≡ changed_to (shown self.old) (with_new_session (shown self.old).tables
             (row_of (right_names self.old) (shown self.old).tables.subjects (shown self.old).tables.objects session))) }
