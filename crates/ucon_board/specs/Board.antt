@@ -1,6 +1,7 @@
 -- A board: its place, and the states of sessions after a list of published replies.
 use Rattle.std.specs.Prelude.{◌≡◌, ℕ, zero, suc, ◌+◌, ◌==◌, ◌<◌, ◌≤◌, Bool, List, [], ◌∷◌, ◌++◌, map, length, slice_get, Option, Some, None, Result, Ok, Err, true, if◌then◌else◌}
 use Rattle.std.specs.Option.{option_or}
+use Rattle.ucon_model.specs.Limits.{most_sessions}
 use mathlib.Core.List.{IsPrefix}
 use Rattle.logbook.specs.Pages.{Book}
 use Rattle.ucon_base.specs.declared.no_memory.NoMemory.{NoMemory}
@@ -80,9 +81,9 @@ opening_state sessions (suc n) = slice_get sessions n
 abbrev pub state_in : Board → ℕ → Option SessionState
 state_in b n = option_or (last_state (all_namings b.replies) n) (opening_state b.sessions n)
 
--- a session's number: from 1 to 1,048,576
+-- a session's number: from 1 to the greatest
 abbrev pub IsSession : ℕ → Type 0
-IsSession n = (0 < n) × (n ≤ 1048576)
+IsSession n = (0 < n) × (n ≤ most_sessions)
 
 -- the reply names only sessions
 abbrev pub NamesSessions : PlainReply → Type 0

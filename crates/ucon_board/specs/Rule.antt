@@ -1,6 +1,7 @@
 -- The rule of the two copies: what is shown is what its history makes, and each end's history begins it.
 use Rattle.std.specs.Prelude.{◌≡◌, ℕ, zero, suc, ◌-◌, List, [], ◌∷◌, ◌++◌, map, replicate, length, fold, slice_get, slice_set, Option, Some, None, ⊤}
 use Rattle.std.specs.Option.{option_flatten}
+use Rattle.ucon_model.specs.Limits.{most_sessions}
 use mathlib.Core.List.{IsPrefix}
 use mathlib.Core.Option.{some}
 use lib.ListN.{get_elem?}
@@ -28,7 +29,7 @@ row_at rows (suc n) = option_flatten (slice_get rows n)
 
 -- the rows at the opening: one for each session that there may ever be
 abbrev pub opened_rows : List SessionState → Rows
-opened_rows sessions = map Some sessions ++ replicate (1048576 - length sessions) None
+opened_rows sessions = map Some sessions ++ replicate (most_sessions - length sessions) None
 
 -- the rows with a session in this state
 abbrev pub set_row : Rows → ℕ → SessionState → Rows
@@ -46,7 +47,7 @@ after rows sayings = fold named rows sayings
 pub record Tied (x : Shown) : Type 0 where
   pub opened : IsOpened x.seen.log
   pub place : x.place ≡ place_of (board_of x.seen.log)
-  pub wide : length x.rows.items ≡ 1048576
+  pub wide : length x.rows.items ≡ most_sessions
   pub states : (n : ℕ) → row_at x.rows.items n ≡ state_in (board_of x.seen.log) n
 
 -- an end knows nothing, or a history of the same book that begins the one that is shown

@@ -8,8 +8,8 @@
 //! **Free.** How the copies lie in memory.
 //!
 //! **Before a change.** Two promises are the kit's. By `left_right` a look and a publication each act in one step. By `logbook` a history only
-//! grows, and its beginnings can be copied. The board has room for 64 readers and 1,048,576 sessions from the start, so no step makes the copies
-//! grow. Begin at `writer.rt` and `reader.rt`.
+//! grows, and its beginnings can be copied. The board has room for a reader of each client and for all sessions from the start, so no step makes the
+//! copies grow. Begin at `writer.rt` and `reader.rt`.
 #![tactic(auto)]
 
 mod history;

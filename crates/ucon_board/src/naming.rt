@@ -5,7 +5,7 @@ ghost use Rattle.ucon_base.specs.Elements.{Each};
 ghost use Rattle.ucon_model.specs.Views.{reply_of};
 ghost use Rattle.ucon_board.specs.Board.{IsSession, NamesSessions, named_by, revocation};
 
-use crate::shown::SESSIONS;
+use ucon_model::limits::MOST_SESSIONS;
 use ucon_model::{Head, Reply, Revoked};
 
 /// Whether the reply names only sessions that a board has.
@@ -21,7 +21,7 @@ pub fn names_sessions(reply: &Reply) -> bool
 fn is_session(n: u32) -> bool
     ensures { (result ≡ true) ↔ IsSession n }
 {
-    n >= 1 && n as usize <= SESSIONS
+    n >= 1 && n <= MOST_SESSIONS
 }
 
 fn is_named(head: &Head) -> bool

@@ -2,14 +2,13 @@
 ghost use Rattle.std.specs.Prelude.{◌≡◌, ◌+◌, ◌-◌, ◌≤◌, [], ◌++◌, length, fold, take, map, replicate, IfOk, Some, None, ⊤};
 ghost use Rattle.ucon_board.specs.Board.{named_by, revocation};
 ghost use Rattle.ucon_board.specs.Rule.{after, opened_rows, row_at, set_row};
+ghost use Rattle.ucon_model.specs.Limits.{most_sessions};
 
 use crate::history::Told;
 use left_right::Absorb;
 use std::alloc::{AllocError, Global};
+use ucon_model::limits::MOST_SESSIONS;
 use ucon_model::{Head, Revoked, SessionState};
-
-/// So many sessions there may be.
-pub const SESSIONS: usize = 1_048_576;
 
 /// The place and the states of the sessions after a history, session 1 first.
 #[derive(Drop)]
@@ -105,14 +104,14 @@ impl Shown {
         sessions: &[SessionState],
         seen: Told,
     ) -> Result<Shown, AllocError>
-        requires { length sessions.now ≤ 1048576 }
+        requires { length sessions.now ≤ most_sessions }
         ensures { IfOk result (λ s. (s.place ≡ place) × (s.rows.items ≡ opened_rows sessions.now) × (s.seen ≡ seen)) }
     {
-        let mut rows = Vec::with_capacity(alloc, SESSIONS)?;
+        let mut rows = Vec::with_capacity(alloc, MOST_SESSIONS as usize)?;
         for state in sessions {
             rows.push(Some(*state))?;
         }
-        rows.resize(SESSIONS, None)?;
+        rows.resize(MOST_SESSIONS as usize, None)?;
         Ok(Shown { place, rows, seen })
     }
 }

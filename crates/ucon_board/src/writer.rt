@@ -2,6 +2,7 @@
 ghost use Rattle.std.specs.Prelude.{◌≡◌, ◌↔◌, ◌+◌, ◌<◌, ◌≤◌, ◌^◌, [], true, false, length, drop, IfOk, IfSome, OnErr, IsErrOf};
 ghost use Rattle.ucon_base.specs.Memory.{out_of_memory};
 ghost use Rattle.ucon_model.specs.History.{changes};
+ghost use Rattle.ucon_model.specs.Limits.{most_sessions};
 ghost use Rattle.ucon_model.specs.Views.{reply_of};
 ghost use Rattle.ucon_board.specs.Board.{GoesOn, NamesSessions, Publishes, place_of, posted};
 ghost use Rattle.ucon_board.specs.Rule.{Posts};
@@ -18,10 +19,8 @@ use std::alloc::{AllocError, Global};
 use std::marker::Model;
 use std::sync::Wait;
 use ucon_base::NoMemory;
+use ucon_model::limits::MOST_CLIENTS;
 use ucon_model::{Reply, SessionState};
-
-/// So many readers there may be at once, one for each client.
-const READERS: usize = 64;
 
 /// The one writer of a board. It is ended by `close`.
 pub struct BoardWriter {
@@ -54,14 +53,15 @@ pub fn board<R: Wait>(
     place: u64,
     sessions: &[SessionState],
 ) -> Result<BoardWriter, NoMemory>
-    requires { length sessions.now ≤ 1048576 }
+    requires { length sessions.now ≤ most_sessions }
     ensures board { IfOk result (λ w. w.board ≡ record { opened_at = place; sessions = sessions.now; replies = [] }) }
     ensures still { IfOk result (λ w. w.still ≡ false) }
 {
     let history = History::open(place, sessions);
     let first = Shown::open(alloc, place, sessions, history.told.again())?;
     let second = Shown::open(alloc, place, sessions, history.told.again())?;
-    let inner = Writer::new(alloc, first, second, READERS)?;
+    // Each client may be a reader.
+    let inner = Writer::new(alloc, first, second, MOST_CLIENTS as usize)?;
     let (inner, done) = inner.publish_as::<Sees, R>(rt);
     if done.is_err() {
         unreachable!();

@@ -9,6 +9,7 @@ use Rattle.ucon_model.specs.declared.command.Entry.{Entry}
 use Rattle.ucon_model.specs.Action.{Trace}
 use Rattle.ucon_model.specs.Block.{reply}
 use Rattle.ucon_model.specs.History.{History, trace_from}
+use Rattle.ucon_model.specs.Limits.{most_clients}
 use Rattle.ucon_model.specs.Plain.{Bytes, PlainPolicy}
 use Rattle.ucon_model.specs.Views.{reply_of}
 use Rattle.ucon_model.specs.LegalRun.{Answer as Told, placed, no_memory, disk_fault, stopped, Answered}
@@ -87,7 +88,7 @@ IsAnswered p = length p.answers.items ≡ length p.lines.items
 
 -- the lines are one client's, the first of them are answered, and there is room for the other answers
 pub record IsPart (p : Part) : Type 0 where
-  pub few : p.number < 64
+  pub few : p.number < most_clients
   pub own : Each (λ l. l.caller.0 ≡ p.number) p.lines.items
   pub first : length p.answers.items ≤ length p.lines.items
   pub room : length p.lines.items ≤ length p.answers.items + p.answers.spare

@@ -3,6 +3,7 @@ use Rattle.std.specs.Prelude.{ℕ, zero, suc, nat_eq, List, [], ◌++◌}
 use Rattle.std.specs.List.{filter}
 use Rattle.ucon_model.specs.declared.command.Entry.{Entry}
 use Rattle.ucon_model.specs.Document.{entry_of as said_entry}
+use Rattle.ucon_model.specs.Limits.{most_clients}
 use Rattle.ucon_script.specs.declared.line_text.LineText.{LineText}
 use Rattle.ucon_script.specs.Document.{spelled_line}
 
@@ -21,4 +22,4 @@ lines_below (suc client) lines = lines_below client lines ++ own_lines client li
 
 -- all lines, by rising client number
 abbrev pub by_client : List Entry → List Entry
-by_client lines = lines_below 64 lines
+by_client lines = lines_below most_clients lines

@@ -8,6 +8,7 @@ use Rattle.ucon_model.specs.Action.{Trace}
 use Rattle.ucon_model.specs.Document.{ScriptLine, entries_of}
 use Rattle.ucon_model.specs.History.{History, trace_from}
 use Rattle.ucon_model.specs.LegalRun.{Answered, IsLegalRun, history_made, own_answers}
+use Rattle.ucon_model.specs.Limits.{most_clients}
 use Rattle.ucon_model.specs.Plain.{PlainPolicy}
 use Rattle.ucon_script.specs.declared.coming_script.ComingScript.{ComingScript}
 use Rattle.ucon_script.specs.declared.document.Line.{Line}
@@ -102,7 +103,7 @@ pub record AreRunOver {D : Type 0} (old new : Kept D) (told : List Answered) : T
 pub record AreLived {D : Type 0} (old new : Kept D) (lines : List ScriptLine) (parts : List Part) (short : Option NoMemory) : Type 0 where
   pub told : List Answered
   pub lines_are : map (λ t. t.line) told ≡ by_client (entries_of lines)
-  pub clients : Each (λ t. t.line.caller.0 < 64) told
+  pub clients : Each (λ t. t.line.caller.0 < most_clients) told
   pub run : AreRunOver old new told
   pub whole : short ≡ None → Each IsAnswered parts × (told ≡ told_in parts)
 
@@ -120,7 +121,7 @@ pub record AreServed {D : Type 0} (turn : Opening (Sharing D)) (seat : Knowledge
     (short : Option NoMemory) : Type 0 where
   pub clients : List Served
   pub lines_are : map (λ t. t.line) (told_by clients) ≡ by_client (entries_of lines)
-  pub callers : Each (λ t. t.line.caller.0 < 64) (told_by clients)
+  pub callers : Each (λ t. t.line.caller.0 < most_clients) (told_by clients)
   pub joined : (says : Replies) (H : History) → SaysFromStore turn.opened.store says H
       → AreJoined says (H ++ turn.opened.store.entries) (map Done H ++ seat.seen) seat.taken clients
   pub whole : short ≡ None → Each IsAnswered parts × (told_by clients ≡ told_in parts)

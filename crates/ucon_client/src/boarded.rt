@@ -4,6 +4,7 @@ ghost use Rattle.std.specs.Prelude.{◌≡◌, ◌≢◌, ◌+◌, ◌++◌, ◌
 ghost use Rattle.ucon_base.specs.Elements.{Each};
 ghost use Rattle.ucon_board.specs.Board.{GoesOn};
 ghost use Rattle.ucon_model.specs.History.{History};
+ghost use Rattle.ucon_model.specs.Limits.{most_clients};
 ghost use Rattle.ucon_turn.specs.Lists.{Continues};
 ghost use Rattle.ucon_store.specs.declared.event.Event.TheVariants.{Done};
 ghost use Rattle.ucon_store.specs.Events.{events_of, number_of};
@@ -112,7 +113,7 @@ impl<E: Engine, D: Disk> Boarded<E, D> {
 
     /// Answers a line, and publishes its reply if that changes something: behind the store's step, which is on the disk by then.
     pub(crate) fn step<R: Wait>(&mut self, rt: &R, alloc: Global, line: &Line) -> Answer
-        requires { line.now.caller.0 < 64 }
+        requires { line.now.caller.0 < most_clients }
         ensures board { option_map identity self.new.board ≡ option_map identity self.old.board }
         ensures stays { Stays D.seen self.old.store self.new.store }
         ensures events { Continues (λ event. number_of event ≡ line.now.caller.0 + 1) (events_of self.old.store) (events_of self.new.store) }

@@ -5,14 +5,13 @@ ghost use Rattle.ucon_base.specs.Elements.{Each};
 ghost use Rattle.ucon_client.specs.Answers.{IsPart, entry_of, lines_in, number};
 ghost use Rattle.ucon_client.specs.Clients.{AreRising};
 ghost use Rattle.ucon_client.specs.Dividing.{by_client, own_lines, spelled_entry};
+ghost use Rattle.ucon_model.specs.Limits.{most_clients};
 
 use crate::part::Part;
 use std::alloc::Global;
 use ucon_base::{NoMemory, Rows};
+use ucon_model::limits::MOST_CLIENTS;
 use ucon_script::{Line, LineText};
-
-/// Clients have the numbers below this one.
-const CLIENTS: u8 = 64;
 
 /// The parts of those clients that have lines, by rising number.
 pub fn divide(alloc: Global, lines: &[LineText<'_>]) -> Result<Vec<Part>, NoMemory>
@@ -21,7 +20,7 @@ pub fn divide(alloc: Global, lines: &[LineText<'_>]) -> Result<Vec<Part>, NoMemo
     ensures lines { IfOk result (λ parts. lines_in parts.items ≡ by_client (map spelled_entry lines.now)) }
 {
     let mut parts = Vec::new(alloc);
-    for client in 0..CLIENTS {
+    for client in 0..MOST_CLIENTS {
         let own = lines_of(alloc, lines, client)?;
         add_part(alloc, &mut parts, client, own)?;
     }
@@ -66,7 +65,7 @@ fn add_part(
     client: u8,
     own: Rows<Line>,
 ) -> Result<(), NoMemory>
-    requires few { client < 64 }
+    requires few { client < most_clients }
     requires own { Each (λ l. l.caller.0 ≡ client) own.items }
     requires parts { Each (λ p. IsPart p × (p.answers.items ≡ [])) parts.old.items }
     requires rising { AreRising (map number parts.old.items) }

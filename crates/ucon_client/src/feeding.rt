@@ -2,6 +2,7 @@
 
 ghost use Rattle.std.specs.Prelude.{◌≡◌, ◌≢◌, ◌<◌, ◌≤◌, All, false, true, length, IfErr, IfOk, IsErrOf, OnErr, OnOk};
 ghost use Rattle.ucon_flow.specs.Causes.{raised};
+ghost use Rattle.ucon_model.specs.Limits.{most_clients};
 ghost use Rattle.ucon_script.specs.Coming.{most_lines};
 ghost use Rattle.ucon_script.specs.ComingScript.{Stops};
 ghost use Rattle.ucon_client.specs.Feeding.{AreEnded, HasFed, HasFedTo, IsFedUpTo};
@@ -22,7 +23,7 @@ pub fn feed<S: Source, R: Wait>(
     source: &mut S,
     feeders: &mut [Feeder<Box<Line>>],
 ) -> Result<(), ScriptStop>
-    requires clients { 64 ≤ length feeders.old }
+    requires clients { most_clients ≤ length feeders.old }
     requires running { All (λ f. f.fed.ended ≡ false) feeders.old }
     ensures fed { HasFed S.seen script.old script.new source.old source.new feeders.old feeders.new result }
     ensures length { length feeders.new ≡ length feeders.old }
@@ -42,7 +43,7 @@ fn feed_lines<S: Source, R: Wait>(
     source: &mut S,
     feeders: &mut [Feeder<Box<Line>>],
 ) -> Result<(), ScriptStop>
-    requires clients { 64 ≤ length feeders.old }
+    requires clients { most_clients ≤ length feeders.old }
     requires running { All (λ f. f.fed.ended ≡ false) feeders.old }
     ensures ok { OnOk result (HasFedTo S.seen script.old script.new source.old source.new feeders.old feeders.new × (script.new.lines.over ≡ true)) }
     ensures err { IfErr result (λ stop. IsFedUpTo S.seen script.old script.new source.old source.new feeders.old feeders.new stop) }
@@ -69,7 +70,7 @@ fn feed_next<S: Source, R: Wait>(
     source: &mut S,
     feeders: &mut [Feeder<Box<Line>>],
 ) -> Result<(), ScriptStop>
-    requires clients { 64 ≤ length feeders.old }
+    requires clients { most_clients ≤ length feeders.old }
     requires running { All (λ f. f.fed.ended ≡ false) feeders.old }
     requires more { script.old.lines.over ≡ false }
     ensures ok { OnOk result (HasFedTo S.seen script.old script.new source.old source.new feeders.old feeders.new) }

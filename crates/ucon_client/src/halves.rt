@@ -4,6 +4,7 @@ ghost use Rattle.std.specs.Prelude.{◌≡◌, ◌≢◌, ◌≤◌, All, Err, I
 ghost use Rattle.ucon_flow.specs.Causes.{raised};
 ghost use Rattle.ucon_client.specs.Feeding.{HasFed};
 ghost use Rattle.ucon_client.specs.Live.{AreThrough, Lives};
+ghost use Rattle.ucon_model.specs.Limits.{most_clients};
 
 use crate::Feeder;
 use crate::boarded::Boarded;
@@ -40,7 +41,7 @@ pub fn serve_while_fed<
     feeders: &mut Vec<Feeder<Box<Line>>>,
 ) -> Result<(), ScriptStop>
     requires live { All (λ c. Lives turn.now c.client c.taker.taken.lines c.short × (c.taker.taken.ended ≡ false)) clients.old.items }
-    requires clients { 64 ≤ length feeders.old.items }
+    requires clients { most_clients ≤ length feeders.old.items }
     requires running { All (λ f. f.fed.ended ≡ false) feeders.old.items }
     ensures through { AreThrough turn.now clients.old.items clients.new.items }
     ensures fed { HasFed S.seen script.old script.new source.old source.new feeders.old.items feeders.new.items result }
@@ -55,7 +56,7 @@ pub fn serve_while_fed<
             requires { All (λ c. Lives turn.now c.client c.taker.taken.lines c.short × (c.taker.taken.ended ≡ false)) clients.now.items }
         { serve_all(rt, serving, clients.as_mut_slice(), turn, gate) },
         &mut ||
-            requires { (64 ≤ length feeders.now.items) × All (λ f. f.fed.ended ≡ false) feeders.now.items }
+            requires { (most_clients ≤ length feeders.now.items) × All (λ f. f.fed.ended ≡ false) feeders.now.items }
         { feed(rt, alloc, script, source, feeders.as_mut_slice()) },
     );
     fed

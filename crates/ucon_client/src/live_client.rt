@@ -1,6 +1,7 @@
 //! A client whose lines come while it runs.
 
 ghost use Rattle.std.specs.Prelude.{◌≡◌, ◌+◌, ◌++◌, ◌<◌, ◌∷◌, [], None, OnErr, OnOk, false, true};
+ghost use Rattle.ucon_model.specs.Limits.{most_clients};
 ghost use Rattle.ucon_turn.specs.Turns.{IsSeatOf};
 ghost use Rattle.ucon_store.specs.Events.{events_of};
 ghost use Rattle.ucon_client.specs.Answers.{IsAnswered, IsPart, Serves};
@@ -40,7 +41,7 @@ impl<E: Engine, D: Disk> LiveClient<E, D> {
         taker: Taker<Box<Line>>,
         seat: Seat<Boarded<E, D>>,
     ) -> LiveClient<E, D>
-        requires few { number < 64 }
+        requires few { number < most_clients }
         requires seat { IsSeatOf turn.now seat × (seat.number ≡ number + 1) }
         requires unmarked { turn.now.opened.store.mark ≡ None }
         requires seen { seat.seen ≡ events_of turn.now.opened.store }

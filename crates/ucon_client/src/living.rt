@@ -3,6 +3,7 @@
 ghost use Rattle.std.specs.Prelude.{◌≡◌, ◌≢◌, ◌+◌, ◌≤◌, All, [], None, length, map, Err, IfErr, IfOk, IsErrOf, OnErr, false, true, vec_len, vec_capacity};
 ghost use Rattle.ucon_base.specs.Elements.{Each};
 ghost use Rattle.ucon_flow.specs.Causes.{raised};
+ghost use Rattle.ucon_model.specs.Limits.{most_clients};
 ghost use Rattle.ucon_turn.specs.Lists.{Has};
 ghost use Rattle.ucon_turn.specs.Turns.{IsSeatOf};
 ghost use Rattle.ucon_store.specs.Events.{events_of};
@@ -26,15 +27,10 @@ use ucon_base::NoMemory;
 use ucon_disk::Disk;
 use ucon_engine::Engine;
 use ucon_flow::Source;
+use ucon_model::limits::{MOST_CLIENTS, MOST_INBOX};
 use ucon_script::{ComingScript, Line, ScriptStop};
 use ucon_store::Store;
 use ucon_turn::{Seat, Turn};
-
-/// Clients have the numbers below this one.
-const CLIENTS: usize = 64;
-
-/// How many lines an inbox has room for.
-const ROOM: u32 = 4096;
 
 /// What a live run leaves.
 #[derive(Drop)]
@@ -141,25 +137,25 @@ struct Room<E: Engine, D: Disk> {
     coming: Vec<LiveClient<E, D>>,
     served: Vec<Client<E, D>>,
     parts: Vec<Part>,
-    ghost count: { (length feeders.items ≡ 64) × (length takers.items ≡ 64) },
+    ghost count: { (length feeders.items ≡ most_clients) × (length takers.items ≡ most_clients) },
     ghost inboxes: { map (λ t. t.inbox) takers.items ≡ map (λ f. f.inbox) feeders.items },
     ghost fed: { All (λ f. f.fed ≡ nothing) feeders.items },
     ghost taken: { All (λ t. t.taken ≡ nothing) takers.items },
     ghost empty: { (coming.items ≡ []) × (served.items ≡ []) × (parts.items ≡ []) },
-    ghost room: { (64 ≤ vec_capacity coming) × (64 ≤ vec_capacity served) × (64 ≤ vec_capacity parts) },
+    ghost room: { (most_clients ≤ vec_capacity coming) × (most_clients ≤ vec_capacity served) × (most_clients ≤ vec_capacity parts) },
 }
 
 /// An inbox for each client.
 fn inboxes(alloc: Global) -> Result<(Vec<Feeder<Box<Line>>>, Vec<Taker<Box<Line>>>), NoMemory>
-    ensures count { IfOk result (λ ends. (length ends.0.items ≡ 64) × (length ends.1.items ≡ 64)) }
+    ensures count { IfOk result (λ ends. (length ends.0.items ≡ most_clients) × (length ends.1.items ≡ most_clients)) }
     ensures inboxes { IfOk result (λ ends. map (λ t. t.inbox) ends.1.items ≡ map (λ f. f.inbox) ends.0.items) }
     ensures fed { IfOk result (λ ends. All (λ f. f.fed ≡ nothing) ends.0.items) }
     ensures taken { IfOk result (λ ends. All (λ t. t.taken ≡ nothing) ends.1.items) }
 {
     let mut feeders = Vec::new(alloc);
     let mut takers = Vec::new(alloc);
-    for _client in 0..CLIENTS {
-        let (feeder, taker) = inbox(alloc, ROOM)?;
+    for _client in 0..MOST_CLIENTS {
+        let (feeder, taker) = inbox(alloc, MOST_INBOX)?;
         feeders.push(feeder)?;
         takers.push(taker)?;
     }
@@ -170,8 +166,8 @@ impl<E: Engine, D: Disk> Room<E, D> {
     /// An inbox for each client, and room for all clients.
     fn new(alloc: Global) -> Result<Room<E, D>, NoMemory> {
         let (feeders, takers) = inboxes(alloc)?;
-        let (served, parts) = room_for(alloc, CLIENTS)?;
-        match Vec::with_capacity(alloc, CLIENTS) {
+        let (served, parts) = room_for(alloc, MOST_CLIENTS as usize)?;
+        match Vec::with_capacity(alloc, MOST_CLIENTS as usize) {
             Ok(coming) => Ok(Room {
                 feeders,
                 takers,
@@ -210,7 +206,7 @@ fn seat_all<E: Engine, D: Disk>(
 )
     requires turn { IsSeatOf turn.now seat.old × (seat.old.number ≡ 0) × (seat.old.given ≡ []) }
     requires seen { (turn.now.opened.store.mark ≡ None) × (seat.old.seen ≡ events_of turn.now.opened.store) }
-    requires takers { (length takers.items ≤ 64) × All (λ t. t.taken ≡ nothing) takers.items }
+    requires takers { (length takers.items ≤ most_clients) × All (λ t. t.taken ≡ nothing) takers.items }
     requires room { (clients.old.items ≡ []) × (vec_len takers ≤ vec_capacity clients.old) }
     ensures turn { IsSeatOf turn.now seat.new × (seat.new.number ≡ 0) × (seat.new.taken ≡ seat.old.taken) × (seat.new.seen ≡ seat.old.seen) }
     ensures given { Each (Has (map (λ c. c.client.part.number + 1) clients.new.items)) seat.new.given }

@@ -3,6 +3,7 @@
 ghost use Rattle.std.specs.Prelude.{◌≡◌, ◌+◌, ◌<◌, ◌≤◌, ◌==◌, ◌∷◌, [], ◌++◌, length, IfOk, IfErr};
 ghost use Rattle.ucon_base.specs.Elements.{Each};
 ghost use Rattle.ucon_client.specs.Answers.{IsPart, Keeps};
+ghost use Rattle.ucon_model.specs.Limits.{most_clients};
 
 use crate::answer::Answer;
 use std::alloc::Global;
@@ -21,7 +22,7 @@ pub struct Part {
 impl Part {
     /// A client's lines, none of them answered yet, with the room for all answers. Where there is no memory for it the lines come back.
     pub fn new(alloc: Global, number: u8, lines: Rows<Line>) -> Result<Part, (Rows<Line>, NoMemory)>
-        requires few { number < 64 }
+        requires few { number < most_clients }
         requires own { Each (λ l. l.caller.0 ≡ number) lines.items }
         ensures part { IfOk result (λ p. IsPart p × (p.number ≡ number) × (p.lines ≡ lines) × (p.answers.items ≡ [])) }
         ensures err { IfErr result (λ e. e.0 ≡ lines) }

@@ -3,6 +3,7 @@
 ghost use Rattle.std.specs.Prelude.{◌≡◌, ℕ, ◌≤◌, length, option_map, IfOk};
 ghost use Rattle.ucon_base.specs.Elements.{Each};
 ghost use Rattle.ucon_board.specs.Board.{opening_state};
+ghost use Rattle.ucon_model.specs.Limits.{most_sessions};
 ghost use Rattle.ucon_state.specs.Shown.{shown};
 ghost use Rattle.ucon_state.specs.Tables.{session_in};
 ghost use Rattle.ucon_client.specs.Boarded.{Publish, Publishes, known_by};
@@ -17,7 +18,7 @@ use ucon_store::{Placed, StepFault};
 
 /// The states of sessions 1, 2 and so on.
 pub(crate) fn session_states(alloc: Global, state: &State) -> Result<Vec<SessionState>, NoMemory>
-    ensures few { IfOk result (λ sessions. length sessions.items ≤ 1048576) }
+    ensures few { IfOk result (λ sessions. length sessions.items ≤ most_sessions) }
     ensures states { IfOk result (λ sessions. (n : ℕ) → opening_state sessions.items n
         ≡ option_map (λ row. row.state) (session_in (shown state.now).tables n)) }
 {

@@ -6,6 +6,7 @@ ghost use Rattle.ucon_turn.specs.Lists.{Has};
 ghost use Rattle.ucon_turn.specs.Turns.{IsSeatOf};
 ghost use Rattle.ucon_model.specs.Action.{Trace};
 ghost use Rattle.ucon_model.specs.History.{History, trace_from};
+ghost use Rattle.ucon_model.specs.Limits.{most_clients};
 ghost use Rattle.ucon_model.specs.Plain.{PlainPolicy};
 ghost use Rattle.ucon_model.specs.LegalRun.{IsLegalRun, own_answers, history_made};
 ghost use Rattle.ucon_client.specs.Answers.{AreReadersAt, IsPart, IsAnswered, IsReaderAt, SaysFromStore, ServesWith, Keeps, asked, lines_in, number, served_of, told_in};
@@ -135,7 +136,7 @@ pub fn serve<E: Engine + Send, D: Disk + Send, G: Gate + Sync, R: Threads + Wait
     ensures asked { IfOk result (λ r. map asked r.1.items ≡ map asked parts.items) }
     ensures all { IfOk result (λ r. Each IsAnswered r.1.items) }
     ensures lines { IfOk result (λ r. map (λ t. t.line) (told_in r.1.items) ≡ lines_in parts.items) }
-    ensures clients { IfOk result (λ r. Each (λ t. t.line.caller.0 < 64) (told_in r.1.items)) }
+    ensures clients { IfOk result (λ r. Each (λ t. t.line.caller.0 < most_clients) (told_in r.1.items)) }
     ensures legal { IfOk result (λ r. (P : PlainPolicy) (H : History) → accepted boarded.store.policy ≡ Some P → IsFront P boarded.store H
         → IsLegalRun P own_answers (H ++ boarded.store.entries) (told_in r.1.items)) }
     ensures made { IfOk result (λ r. (P : PlainPolicy) (H : History) → accepted boarded.store.policy ≡ Some P → IsFront P boarded.store H

@@ -2,6 +2,7 @@
 
 ghost use Rattle.std.specs.Prelude.{◌≡◌, ◌+◌, ◌<◌, ⊤};
 ghost use Rattle.ucon_client.specs.Steps.{HasAnswered, HasConfirmed, HasStepped, IsOfBase};
+ghost use Rattle.ucon_model.specs.Limits.{most_clients};
 
 use crate::answer::Answer;
 use crate::boarded::Boarded;
@@ -19,7 +20,7 @@ pub(crate) struct Step<'a, R> {
     pub rt: &'a R,
     pub alloc: Global,
     pub line: &'a Line,
-    ghost few: { line.now.caller.0 < 64 },
+    ghost few: { line.now.caller.0 < most_clients },
 }
 
 impl<E: Engine, D: Disk, R: Wait> Job<Boarded<E, D>> for Step<'_, R> {
@@ -42,7 +43,7 @@ impl<E: Engine, D: Disk, R: Wait> Job<Boarded<E, D>> for Step<'_, R> {
 
 /// The number of the seat that a line's client has.
 fn seat_of(line: &Line) -> u32
-    requires { line.now.caller.0 < 64 }
+    requires { line.now.caller.0 < most_clients }
     ensures { result ≡ line.now.caller.0 + 1 }
 {
     line.caller.0 as u32 + 1
@@ -55,7 +56,7 @@ pub(crate) struct ConfirmedStep<'a, R> {
     pub alloc: Global,
     pub line: &'a Line,
     pub looks: Looks,
-    ghost few: { line.now.caller.0 < 64 },
+    ghost few: { line.now.caller.0 < most_clients },
 }
 
 impl<E: Engine, D: Disk, R: Wait> Job<Boarded<E, D>> for ConfirmedStep<'_, R> {

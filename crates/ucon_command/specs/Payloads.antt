@@ -10,6 +10,7 @@ use Rattle.ucon_model.specs.declared.command.Entry.{Entry}
 use Rattle.ucon_model.specs.declared.reply.Reply.{Reply}
 use Rattle.ucon_model.specs.CommandLine.{IsCommand, line_read}
 use Rattle.ucon_model.specs.History.{History, said}
+use Rattle.ucon_model.specs.Limits.{most_accessing, most_amendment, most_clients}
 use Rattle.ucon_model.specs.Output.{cut_at}
 use Rattle.ucon_model.specs.Payload.{Told, told, caller_read, revocations_in, ◌>>=◌}
 use Rattle.ucon_model.specs.Plain.{Bytes, PlainPolicy, PlainReply}
@@ -41,23 +42,23 @@ IsBadAt read (NoMemory e) = ⊤
 abbrev pub GivesStep : Result (Caller × Command × Reply) PayloadFault → Result Told ℕ → Type 0
 GivesStep result read = MatchResult result (λ t. read ≡ Ok (told_of t.0 t.1 t.2)) (IsBadAt read)
 
--- no payload is longer, of which a command's text has at most 65,542 bytes
+-- no payload is longer, whatever the command is
 abbrev pub most_told : PlainReply → ℕ
-most_told reply = 65547 + most_reply reply
+most_told reply = 5 + most_amendment + most_reply reply
 
--- A step that can be spelled. It is of one of the 64 clients, of a command and a reply of names, values and numbers. It has no more revocations
+-- A step that can be spelled. It is of one of the clients, of a command and a reply of names, values and numbers. It has no more revocations
 -- than sessions can be accessing.
 pub record IsStep (t : Told) : Type 0 where
-  pub client : t.caller.0 < 64
+  pub client : t.caller.0 < most_clients
   pub command : IsCommand t.command
   pub reply : IsReply t.reply
-  pub few : length (revocations_in t.reply) ≤ 65536
+  pub few : length (revocations_in t.reply) ≤ most_accessing
 
 -- these entries, each with its reply behind the others, are such steps
 abbrev pub AreSteps : PlainPolicy → History → History → Type 0
 AreSteps P H [] = ⊤
 AreSteps P H (e ∷ rest) = IsStep (told e (said P H e.caller e.command)) × AreSteps P (H ++ e ∷ []) rest
 
--- each of one of the 64 clients, and of a command that a line may give
+-- each of one of the clients, and of a command that a line may give
 abbrev pub AreOfClients : History → Type 0
-AreOfClients H = Each (λ e. (e.caller.0 < 64) × IsCommand e.command) H
+AreOfClients H = Each (λ e. (e.caller.0 < most_clients) × IsCommand e.command) H

@@ -6,12 +6,13 @@ use Rattle.ucon_command.specs.declared.request.RequestFault.TheVariants.{BadClie
 use Rattle.ucon_command.specs.Faults.{IsRefusal, IsSure, amends}
 use Rattle.ucon_model.specs.declared.command.Caller.{Caller}
 use Rattle.ucon_model.specs.CommandLine.{line_read}
+use Rattle.ucon_model.specs.Limits.{most_clients}
 use Rattle.ucon_model.specs.Plain.{Bytes}
 use Rattle.ucon_syntax.specs.Policies.{accepted}
 
--- a line is the number of one of the 64 clients in decimal, a space, and this text
+-- a line is the number of one of the clients in decimal, a space, and this text
 pub record IsAskedBy (line : Bytes) (caller : Caller) (text : Bytes) : Type 0 where
-  pub few : caller.0 < 64
+  pub few : caller.0 < most_clients
   pub line_is : line ≡ decimal caller.0 ++ 32 ∷ text
 
 -- whose line a refusal says that it is, it is

@@ -14,7 +14,7 @@ use ucon_base::{Name, NoMemory, Side, put, put_integer};
 use ucon_model::{Amend, Command};
 use ucon_reply::{put_name, put_session, put_value};
 
-/// The one line that reads as the command, without a newline: at most 65,542 bytes for an amendment, and 8,192 for any other.
+/// The one line that reads as the command, without a newline: at most `MOST_AMENDMENT` bytes for an amendment, and `MOST_LINE` for any other.
 pub fn command_text(alloc: Global, command: &Command) -> Result<Vec<u8>, NoMemory>
     ensures text { IfOk result (λ t. t.items ≡ command_spelling command.now) }
     ensures read_back { IfOk result (λ t. line_read accepted t.items ≡ Ok command.now) }

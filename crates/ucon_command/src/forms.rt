@@ -5,13 +5,13 @@ ghost use Rattle.std.specs.Result.{result_ok};
 ghost use Rattle.ucon_base.specs.NameBytes.{is_name};
 ghost use Rattle.ucon_model.specs.CommandLine.{name_in, integer_in, number_in, one_word, three_names, place_of, value_words, set_words, env_words};
 ghost use Rattle.ucon_model.specs.CommandLine.{amend_words, words_of};
+ghost use Rattle.ucon_model.specs.Limits.{most_amendment, most_line};
 ghost use Rattle.ucon_syntax.specs.Policies.{accepted};
 ghost use Rattle.ucon_command.specs.Cuts.{AreCuts, GivesCuts, IsSecond, ends_in_name, has_name};
 ghost use Rattle.ucon_command.specs.Faults.{GivesTold, IsRefusal, IsTold};
 ghost use Rattle.ucon_reply.specs.Words.{between, word_of};
 
 use crate::cuts::Cuts;
-use crate::judging::{MOST_AMENDMENT, MOST_LINE};
 use crate::kinds::{
     amendment_word, integer_word, name_word, number_word, seen_name, side_word, value_word,
 };
@@ -25,7 +25,7 @@ use ucon_reply::{
 /// `subject N` and `object N`: where the name begins.
 #[tactic(auto, unfolding(ucon_model::specs::CommandLine::one_word), using(crate::proofs::Placed::one_miscounted))]
 pub fn one_name(line: &[u8], second: Option<usize>) -> Result<u16, LineFault>
-    requires short { length line.now ≤ MOST_LINE }
+    requires short { length line.now ≤ most_line }
     requires second { IsSecond second line.now }
     ensures { MatchResult result (λ n. (one_word name_in (words_of line.now) ≡ Ok (drop n line.now)) × IsTrue (ends_in_name n line.now))
         (IsTold (one_word name_in (words_of line.now))) }
@@ -40,7 +40,7 @@ pub fn one_name(line: &[u8], second: Option<usize>) -> Result<u16, LineFault>
 /// `tick T`: where the integer begins.
 #[tactic(auto, unfolding(ucon_model::specs::CommandLine::one_word), using(crate::proofs::Placed::one_miscounted))]
 pub fn one_integer(line: &[u8], second: Option<usize>) -> Result<u16, LineFault>
-    requires short { length line.now ≤ MOST_LINE }
+    requires short { length line.now ≤ most_line }
     requires second { IsSecond second line.now }
     ensures { MatchResult result
         (λ t. IsOk (one_word integer_in (words_of line.now))
@@ -57,7 +57,7 @@ pub fn one_integer(line: &[u8], second: Option<usize>) -> Result<u16, LineFault>
 /// `again n`, `beat n`, `end n` and `look n`: the session's number.
 #[tactic(auto, unfolding(ucon_model::specs::CommandLine::one_word), using(crate::proofs::Placed::one_miscounted))]
 pub fn one_number(line: &[u8], second: Option<usize>) -> Result<u32, LineFault>
-    requires short { length line.now ≤ MOST_LINE }
+    requires short { length line.now ≤ most_line }
     requires second { IsSecond second line.now }
     ensures { GivesTold result (one_word number_in (words_of line.now)) (λ n. n) }
 {
@@ -71,7 +71,7 @@ pub fn one_number(line: &[u8], second: Option<usize>) -> Result<u32, LineFault>
 #[inline(always)]
 #[tactic(auto, unfolding(ucon_model::specs::CommandLine::three_names, ucon_model::specs::CommandLine::names_of), using(crate::proofs::Placed::three_miscounted))]
 pub fn three_names(line: &[u8], second: Option<usize>) -> Result<(u16, u16, u16), LineFault>
-    requires short { length line.now ≤ MOST_LINE }
+    requires short { length line.now ≤ most_line }
     requires second { IsSecond second line.now }
     ensures read { GivesTold result (three_names (words_of line.now)) (λ p. (between p.0 p.1 line.now, between p.1 p.2 line.now, drop p.2 line.now)) }
     ensures words { IfOk result (λ p. IsTrue (has_name p.0 p.1 line.now) × IsTrue (has_name p.1 p.2 line.now) × IsTrue (ends_in_name p.2 line.now)) }
@@ -110,7 +110,7 @@ fn place_of(
 /// `value s|o N ATTR`: the side, and where the names begin.
 #[tactic(auto, unfolding(ucon_model::specs::CommandLine::value_words), using(crate::proofs::Placed::value_miscounted))]
 pub fn value_words(line: &[u8], second: Option<usize>) -> Result<(Side, u16, u16), LineFault>
-    requires short { length line.now ≤ MOST_LINE }
+    requires short { length line.now ≤ most_line }
     requires second { IsSecond second line.now }
     ensures read { GivesTold result (value_words (words_of line.now)) (λ p. (p.0, between p.1 p.2 line.now, drop p.2 line.now)) }
     ensures words { IfOk result (λ p. IsTrue (has_name p.1 p.2 line.now) × IsTrue (ends_in_name p.2 line.now)) }
@@ -131,7 +131,7 @@ pub fn value_words(line: &[u8], second: Option<usize>) -> Result<(Side, u16, u16
 /// `set s|o N ATTR VALUE`.
 #[tactic(auto, unfolding(ucon_model::specs::CommandLine::set_words, ucon_model::specs::CommandLine::set_of), using(crate::proofs::Placed::set_miscounted))]
 pub fn set_words(alloc: Global, line: &[u8], second: Option<usize>) -> Result<Cuts, LineFault>
-    requires short { length line.now ≤ MOST_LINE }
+    requires short { length line.now ≤ most_line }
     requires second { IsSecond second line.now }
     ensures { GivesCuts result line.now (set_words line.now (words_of line.now)) }
 {
@@ -157,7 +157,7 @@ pub fn set_words(alloc: Global, line: &[u8], second: Option<usize>) -> Result<Cu
 /// `env VAR VALUE`.
 #[tactic(auto, unfolding(ucon_model::specs::CommandLine::env_words, ucon_model::specs::CommandLine::env_of), using(crate::proofs::Placed::env_miscounted))]
 pub fn env_words(alloc: Global, line: &[u8], second: Option<usize>) -> Result<Cuts, LineFault>
-    requires short { length line.now ≤ MOST_LINE }
+    requires short { length line.now ≤ most_line }
     requires second { IsSecond second line.now }
     ensures { GivesCuts result line.now (env_words line.now (words_of line.now)) }
 {
@@ -175,7 +175,7 @@ pub fn env_words(alloc: Global, line: &[u8], second: Option<usize>) -> Result<Cu
 /// `amend POLICY`: where the policy begins, which takes the rest of the line.
 #[tactic(auto, unfolding(ucon_model::specs::CommandLine::amend_words), using(crate::proofs::Amended::amend_miscounted))]
 pub fn amend_words(alloc: Global, line: &[u8], second: Option<usize>) -> Result<Cuts, LineFault>
-    requires short { length line.now ≤ MOST_AMENDMENT }
+    requires short { length line.now ≤ most_amendment }
     requires second { IsSecond second line.now }
     ensures cuts { MatchResult result (λ k. AreCuts k line.now (amend_words accepted line.now (words_of line.now)))
         (IsRefusal (amend_words accepted line.now (words_of line.now))) }

@@ -3,6 +3,7 @@
 ghost use Rattle.std.specs.Prelude.{◌≡◌, ◌<◌, ◌≤◌, length, nat_lt, codes, Err, IfErr, IfSome, IsFalse, MatchResult};
 ghost use Rattle.std.specs.Str.{bytes_eq};
 ghost use Rattle.ucon_model.specs.CommandLine.{command_read, line_read, most_bytes, words_of};
+ghost use Rattle.ucon_model.specs.Limits.{most_line};
 ghost use Rattle.ucon_syntax.specs.Policies.{accepted};
 ghost use Rattle.ucon_command.specs.Cuts.{AreCuts, GivesCuts, IsSecond};
 ghost use Rattle.ucon_command.specs.Faults.{IsRefusal, IsSure, amends};
@@ -16,13 +17,8 @@ use crate::laws::commands_are_read_back;
 use crate::line_fault::LineFault;
 use std::alloc::Global;
 use ucon_base::Int;
+use ucon_model::limits::{MOST_AMENDMENT, MOST_LINE};
 use ucon_reply::{next_word, number_in, words_are_read_back};
-
-/// The most bytes of a line that is no amendment.
-pub(crate) const MOST_LINE: usize = 8_192;
-
-/// The most bytes of an amendment's line: its word and a policy's text.
-pub(crate) const MOST_AMENDMENT: usize = 65_542;
 
 /// Where the words of a line's command stand, or the first refusal. A line of too many bytes is refused before any memory is taken,
 /// and of another line than an amendment each refusal is told whatever memory there is.
@@ -79,7 +75,7 @@ fn plain_cuts(line: &[u8]) -> Option<Cuts>
 #[inline(always)]
 #[tactic(auto, unfolding(ucon_model::specs::CommandLine::command_read))]
 fn try_cuts(line: &[u8], second: Option<usize>) -> Result<Cuts, LineFault>
-    requires short { length line.now ≤ MOST_LINE }
+    requires short { length line.now ≤ most_line }
     requires second { IsSecond second line.now }
     ensures { GivesCuts result line.now (command_read accepted line.now (codes "try") (words_of line.now)) }
 {
@@ -94,7 +90,7 @@ fn try_cuts(line: &[u8], second: Option<usize>) -> Result<Cuts, LineFault>
 #[inline(always)]
 #[tactic(auto, unfolding(ucon_model::specs::CommandLine::command_read))]
 fn act_cuts(line: &[u8], second: Option<usize>) -> Result<Cuts, LineFault>
-    requires short { length line.now ≤ MOST_LINE }
+    requires short { length line.now ≤ most_line }
     requires second { IsSecond second line.now }
     ensures { GivesCuts result line.now (command_read accepted line.now (codes "act") (words_of line.now)) }
 {
@@ -180,7 +176,7 @@ fn other_cuts(
     first: &[u8],
     second: Option<usize>,
 ) -> Result<Cuts, LineFault>
-    requires short { length line.now ≤ MOST_LINE }
+    requires short { length line.now ≤ most_line }
     requires second { IsSecond second line.now }
     requires other { IsFalse (bytes_eq first.now (codes "amend")) }
     ensures { GivesCuts result line.now (command_read accepted line.now first.now (words_of line.now)) }

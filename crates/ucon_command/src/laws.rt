@@ -8,6 +8,7 @@ ghost use Rattle.ucon_model.specs.declared.command.Command.{Command};
 ghost use Rattle.ucon_model.specs.CommandLine.{IsCommand, command_spelling, line_read, most_bytes};
 ghost use Rattle.ucon_model.specs.Found.{Takes, TakesSteps, found_in, first_gate, gate_behind, holds, only_steps, payloads_of, taken};
 ghost use Rattle.ucon_model.specs.History.{History, IsProper, changes, said};
+ghost use Rattle.ucon_model.specs.Limits.{most_clients};
 ghost use Rattle.ucon_model.specs.Output.{Lacks};
 ghost use Rattle.ucon_model.specs.Payload.{Told, entry_told, most_payload, payload_read, payload_spelling, told};
 ghost use Rattle.ucon_model.specs.Plain.{Bytes, PlainPolicy};
@@ -37,7 +38,7 @@ pub fn commands_are_read_back()
 /// The payload of each step that can be spelled is read as the step and fits its record, and bytes that are read are the payload of the step read.
 pub fn payloads_are_read_back()
     ensures written { (t : Told) → IsStep t → payload_read accepted (payload_spelling t) ≡ Ok t }
-    ensures read { (bytes : Bytes) (t : Told) → payload_read accepted bytes ≡ Ok t → (payload_spelling t ≡ bytes) × (t.caller.0 < 64) }
+    ensures read { (bytes : Bytes) (t : Told) → payload_read accepted bytes ≡ Ok t → (payload_spelling t ≡ bytes) × (t.caller.0 < most_clients) }
     ensures short { (t : Told) → IsStep t → length (payload_spelling t) ≤ most_told t.reply }
     ensures fits { (t : Told) → IsStep t → length (payload_spelling t) ≤ most_payload }
 {
@@ -78,7 +79,7 @@ pub fn histories_are_found()
     texts_tell_changes();
 }
 
-/// What is found in the payloads of a proper history of commands of the 64 clients is that history, and each payload fits its record: its
+/// What is found in the payloads of a proper history of commands of the clients is that history, and each payload fits its record: its
 /// replies can be spelled.
 pub fn proper_histories_are_found()
     ensures found { (takes : Takes) (text : Bytes) (P : PlainPolicy) (H : History) → TakesSteps accepted takes → accepted text ≡ Some P

@@ -8,7 +8,7 @@ use ucon_base::NoMemory;
 /// Why a line is no command. They are tried in this order; places are from 0.
 #[derive(Clone, Copy, Debug, PartialEq, Eq)]
 pub enum LineFault {
-    /// More than 8192 bytes, or more than 65,542 if it begins with `amend `; so many.
+    /// More than `MOST_LINE` bytes, or more than `MOST_AMENDMENT` if it begins with `amend `; so many.
     TooLong(usize),
     /// The line is empty or begins with a space.
     NoWord,

@@ -11,8 +11,8 @@ use crate::line_fault::LineFault;
 use std::alloc::Global;
 use ucon_model::Command;
 
-/// The command whose text a line is, or the first refusal. A line of more than 8192 bytes, or if it begins with
-/// `amend ` of more than 65,542, is refused before any memory is taken; of a line that doesn't begin so each refusal is told
+/// The command whose text a line is, or the first refusal. A line of more than `MOST_LINE` bytes, or if it begins with
+/// `amend ` of more than `MOST_AMENDMENT`, is refused before any memory is taken; of a line that doesn't begin so each refusal is told
 /// whatever memory there is.
 pub fn read_command(alloc: Global, line: &[u8]) -> Result<Command, LineFault>
     ensures read { MatchResult result (λ c. line_read accepted line.now ≡ Ok c) (IsRefusal (line_read accepted line.now)) }

@@ -7,6 +7,7 @@ ghost use Rattle.std.specs.List.{position_or_len};
 ghost use Rattle.std.specs.Result.{result_ok};
 ghost use Rattle.std.specs.Str.{bytes_eq};
 ghost use Rattle.ucon_model.specs.CommandLine.{IsCommand, line_read};
+ghost use Rattle.ucon_model.specs.Limits.{most_clients};
 ghost use Rattle.ucon_model.specs.Output.{cut_at};
 ghost use Rattle.ucon_model.specs.Payload.{Told, caller_read, entry_told, payload_read, payload_spelling, step_read, told};
 ghost use Rattle.ucon_model.specs.Plain.{Bytes, made};
@@ -25,13 +26,14 @@ use crate::payload_fault::PayloadFault;
 use std::alloc::Global;
 use std::simd::prelude::*;
 use ucon_base::{NoMemory, put};
+use ucon_model::limits::MOST_CLIENTS;
 use ucon_model::{Caller, Command, Entry, Head, Reply, texts_lack_bytes};
 use ucon_reply::{
     ReplyFault, put_reply, put_session, put_spelling, read_reply, replies_are_read_back,
 };
 
 /// Adds the one text of a step: the caller in decimal, a space, the command's text, a newline, the reply's text. What was added is read back as the
-/// step, if it is of one of the 64 clients, and is no longer than the reply's revocations let it be. If there is no memory, some of it may
+/// step, if it is of one of the clients, and is no longer than the reply's revocations let it be. If there is no memory, some of it may
 /// stand there: a caller gives the text up.
 pub fn put_payload(
     alloc: Global,
@@ -41,7 +43,7 @@ pub fn put_payload(
     reply: &Reply,
 ) -> Result<(), NoMemory>
     ensures text { OnOk result (out.new.items ≡ out.old.items ++ payload_spelling (told_of caller command.now reply.now)) }
-    ensures read_back { OnOk result (caller.0 < 64
+    ensures read_back { OnOk result (caller.0 < most_clients
         → payload_read accepted (payload_spelling (told_of caller command.now reply.now)) ≡ Ok (told_of caller command.now reply.now)) }
     ensures short { OnOk result (length (payload_spelling (told_of caller command.now reply.now)) ≤ most_told (reply_of reply.now)) }
 {
@@ -75,7 +77,7 @@ fn put_step(
 pub fn read_payload(alloc: Global, bytes: &[u8]) -> Result<(Caller, Command, Reply), PayloadFault>
     ensures read { GivesStep result (payload_read accepted bytes.now) }
     ensures spelled { IfOk result (λ t. payload_spelling (told_of t.0 t.1 t.2) ≡ bytes.now) }
-    ensures client { IfOk result (λ t. t.0.0 < 64) }
+    ensures client { IfOk result (λ t. t.0.0 < most_clients) }
     ensures no_client { payload_read accepted bytes.now ≡ Err 0 → result ≡ Err (PayloadFault.BadPlace 0) }
 {
     payloads_are_read_back();
@@ -108,7 +110,7 @@ pub fn read_entry<'a>(
     ensures read { MatchResult result (λ rest. entry_read accepted bytes.now ≡ Ok (out.new, rest.now)) (IsBadAt (entry_read accepted bytes.now)) }
     ensures told { OnOk result ((t : Told) → payload_read accepted bytes.now ≡ Ok t → out.new ≡ entry_told t) }
     ensures untold { (place : ℕ) → result ≡ Err (PayloadFault.BadPlace place) → payload_read accepted bytes.now ≡ Err place }
-    ensures client { OnOk result (out.new.caller.0 < 64) }
+    ensures client { OnOk result (out.new.caller.0 < most_clients) }
 {
     entry(alloc, bytes, out)
 }
@@ -335,14 +337,14 @@ pub(crate) fn caller_in(bytes: &[u8]) -> Option<Caller>
     ensures { result ≡ caller_read bytes.now }
 {
     match two_digits(bytes) {
-        Some(n) if n < 64 && is_decimal_of(bytes, n) => Some(Caller(n as u8)),
+        Some(n) if n < MOST_CLIENTS as u32 && is_decimal_of(bytes, n) => Some(Caller(n as u8)),
         _ => None,
     }
 }
 
 /// What one or two digits tell, if these are digits.
 fn two_digits(bytes: &[u8]) -> Option<u32>
-    ensures { (n : ℕ) → n < 64 → decimal n ≡ bytes.now → result ≡ Some n }
+    ensures { (n : ℕ) → n < most_clients → decimal n ≡ bytes.now → result ≡ Some n }
 {
     match bytes {
         [unit] => Some(digit(*unit)),
@@ -360,7 +362,7 @@ fn digit(b: u8) -> u32
 
 /// Whether bytes are a number's decimal. It has one digit or two.
 fn is_decimal_of(bytes: &[u8], n: u32) -> bool
-    requires { n < 64 }
+    requires { n < most_clients }
     ensures { IsTrue result ↔ (decimal n ≡ bytes.now) }
 {
     let unit = b'0' + (n % 10) as u8;

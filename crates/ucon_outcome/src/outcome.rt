@@ -52,9 +52,9 @@ pub enum Outcome {
     NoMemory(NoMemory),
     /// The journal's policy has another text: the place of the first byte that differs, or the length of the shorter text.
     OtherPolicy(u64),
-    /// The input has more than 4,194,304 bytes.
+    /// The input has more than `MOST_DOCUMENT` bytes.
     TooLong,
-    /// The checkpoint has more than 16,777,215 bytes: so many. It wasn't written.
+    /// The checkpoint has more than `MAX_PAYLOAD` bytes: so many. It wasn't written.
     FullPoint(u64),
     /// The journal is of version 1, which has no checkpoints.
     OldJournal,

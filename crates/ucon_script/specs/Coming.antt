@@ -4,6 +4,7 @@ use Rattle.std.specs.List.{before_first}
 use Rattle.std.specs.Io.KnownBytes.{Consumes, IsAtEnd}
 use Rattle.ucon_flow.specs.Lines.{IsBare, IsLine, first_line}
 use Rattle.ucon_flow.specs.Seen.{SourceSeen}
+use Rattle.ucon_model.specs.Limits.{most_document}
 use Rattle.ucon_model.specs.Plain.{Bytes}
 use Rattle.ucon_model.specs.Document.{before_divider, lines_of, policy_part, script_lines, script_number}
 
@@ -92,18 +93,18 @@ pub record HasOpened {S : Type 0} (seen : S → SourceSeen) (policy : Bytes) (le
   pub consumed : Consumes (seen first).left (seen last).left read
   pub front : Bytes
   pub all : read ≡ front ++ left.held
-  pub room : left.room + length front ≡ 4194304
+  pub room : left.room + length front ≡ most_document
   pub at_end : left.over ≡ true → IsEnded seen left last
   pub opens : Opens policy left number read
 
--- No line that ends within the first 4,194,304 bytes is the divider, and there are more: the next line ends behind them.
+-- No line that ends within the most bytes of a document is the divider, and there are more: the next line ends behind them.
 pub record IsLongPart (bytes : Bytes) : Type 0 where
   pub front : Bytes
   pub rest : Bytes
   pub lines : ℕ
   pub bytes_are : bytes ≡ front ++ rest
   pub above : IsAbove front lines
-  pub long : 4194304 < length front + length (first_line rest)
+  pub long : most_document < length front + length (first_line rest)
 
 -- no whole line of these bytes is the divider
 pub record IsUndivided (bytes : Bytes) : Type 0 where

@@ -2,6 +2,7 @@
 use Rattle.std.specs.Prelude.{◌≡◌, true, false, ◌<◌, ◌≤◌, ◌+◌, List, [], ◌∷◌, ◌++◌, length, Option, IfSome, Result, ⊤, Ok}
 use Rattle.ucon_flow.specs.Lines.{IsBare, first_line}
 use Rattle.ucon_flow.specs.Seen.{SourceSeen}
+use Rattle.ucon_model.specs.Limits.{most_document}
 use Rattle.ucon_model.specs.Plain.{Bytes, PlainPolicy}
 use Rattle.ucon_model.specs.Document.{DocumentRefusal, ScriptLine, document_read, lines_of, script_lines, script_number, script_told}
 use Rattle.ucon_script.specs.declared.coming_script.ComingScript.{ComingScript}
@@ -63,7 +64,7 @@ pub record IsFedBy (reads : Bytes → Option PlainPolicy) (bytes : Bytes) (told 
 -- They are all of a document that was read to its end.
 pub record IsFedWholeBy (reads : Bytes → Option PlainPolicy) (input : Option Bytes) (read : Bytes) (told : List ScriptLine) : Type 0 where
   pub all : IfSome input (λ known. known ≡ read)
-  pub short : length read ≤ 4194304
+  pub short : length read ≤ most_document
   pub says : document_read reads read ≡ Ok told
 
 -- Those are all above the first line that is refused. So the document is refused by that.
@@ -76,7 +77,7 @@ pub record IsFedToRefusalBy (reads : Bytes → Option PlainPolicy) (bytes : Byte
   pub first : IsRefusal (script_told reads (script_number (lines_of bytes)) [] (given ++ line ∷ [])) fault
   pub refused : IsRefusal (document_read reads bytes) fault
 
--- They are all that end within the first 4,194,304 bytes, of more that were read. The next line ends behind them.
+-- They are all that end within the most bytes of a document, of more that were read. The next line ends behind them.
 pub record IsFedToLimitBy (reads : Bytes → Option PlainPolicy) (read : Bytes) (told : List ScriptLine) : Type 0 where
   pub front : Bytes
   pub rest : Bytes
@@ -84,8 +85,8 @@ pub record IsFedToLimitBy (reads : Bytes → Option PlainPolicy) (read : Bytes) 
   pub read_is : read ≡ front ++ rest
   pub script_is : script_lines (lines_of read) ≡ given ++ lines_of rest
   pub says : script_told reads (script_number (lines_of read)) [] given ≡ Ok told
-  pub within : length front ≤ 4194304
-  pub long : 4194304 < length front + length (first_line rest)
+  pub within : length front ≤ most_document
+  pub long : most_document < length front + length (first_line rest)
 
 -- They are all whole lines of what was read. One more had begun, or none.
 pub record IsFedToFaultBy (reads : Bytes → Option PlainPolicy) (read : Bytes) (told : List ScriptLine) : Type 0 where

@@ -10,9 +10,7 @@ use crate::coming_script::ComingScript;
 use crate::part::{cut, is_divider};
 use std::alloc::Global;
 use ucon_flow::{ReadFault, Source};
-
-/// The most bytes of a document.
-const LIMIT: usize = 4_194_304;
+use ucon_model::limits::MOST_DOCUMENT;
 
 /// A document whose policy part was read, while its script may still be coming.
 #[derive(Drop)]
@@ -37,7 +35,7 @@ pub fn read_coming<S: Source>(alloc: Global, source: &mut S) -> Result<ComingDoc
     ensures failed { IsErrOf result ReadFault.SourceFault → (S.seen source.new).faults ≡ raised (S.seen source.old).faults }
     ensures unfailed { result ≢ Err ReadFault.SourceFault → (S.seen source.new).faults ≡ (S.seen source.old).faults }
 {
-    let mut lines = ComingLines::new(alloc, LIMIT);
+    let mut lines = ComingLines::new(alloc, MOST_DOCUMENT);
     let mut policy = Vec::new(alloc);
     let mut above: u32 = 0;
     'lines: loop {

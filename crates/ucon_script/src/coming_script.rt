@@ -1,6 +1,7 @@
 //! A script, judged line by line while it is still being written.
 
 ghost use Rattle.std.specs.Prelude.{◌≡◌, ◌≤◌, ◌+◌, false};
+ghost use Rattle.ucon_model.specs.Limits.{most_clients};
 
 use crate::coming_lines::ComingLines;
 use crate::part::cut;
@@ -53,7 +54,7 @@ impl ComingScript {
     ) -> Result<Option<Line>, ScriptStop>
         requires { self.old.lines.over ≡ false }
         ensures says { IfOk result (λ o. Says S.seen self.old self.new source.old source.new (option_to_list (option_map line_of o))) }
-        ensures clients { IfOk result (λ o. IfSome o (λ l. l.caller.0 < 64)) }
+        ensures clients { IfOk result (λ o. IfSome o (λ l. l.caller.0 < most_clients)) }
         ensures fewer { OnOk result (most_lines self.new.lines < most_lines self.old.lines) }
         ensures stops { IfErr result (λ stop. Stops S.seen self.old self.new source.old source.new stop) }
         ensures failed { IsErrOf result ScriptStop.SourceFault → (S.seen source.new).faults ≡ raised (S.seen source.old).faults }

@@ -14,9 +14,9 @@ pub enum DocFault {
     BadHeading(u32),
     /// The line is no command.
     BadLine(u32, LineFault),
-    /// A heading of a client above 63.
+    /// A heading of a client of `MOST_CLIENTS` or above.
     TooManyClients(u32),
-    /// One command line more than 262,144.
+    /// One command line more than `MOST_COMMAND_LINES`.
     TooManyLines(u32),
     NoMemory(NoMemory),
 }

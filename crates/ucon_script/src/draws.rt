@@ -6,6 +6,7 @@ ghost use Rattle.ucon_base.specs.Name.{first_fault};
 ghost use Rattle.ucon_model.specs.Document.{caller_of};
 ghost use Rattle.ucon_model.specs.Generated.{next_x, below, user, video, drawn, drawn_try, drawn_at_session, drawn_tick, drawn_credit, generated};
 ghost use Rattle.ucon_model.specs.Generated.{part_lines, text_of};
+ghost use Rattle.ucon_model.specs.Limits.{most_document, most_generated};
 ghost use Rattle.ucon_script.specs.Generator.{HasRoom, generator_of};
 
 use std::alloc::Global;
@@ -59,9 +60,9 @@ set s u9 credit 100
 /// A document of `size` lines behind its opening ones, which is always the same for the same seed.
 #[tactic(auto, using(crate::proofs::Generating::short))]
 pub fn generate(alloc: Global, seed: u64, size: u32) -> Result<Vec<u8>, NoMemory>
-    requires { size ≤ 100000 }
+    requires { size ≤ most_generated }
     ensures text { IfOk result (λ text. text.items ≡ generated seed size) }
-    ensures short { length (generated seed size) ≤ 4194304 }
+    ensures short { length (generated seed size) ≤ most_document }
 {
     let mut text = Vec::from_slice(alloc, HEAD)?;
     let mut generator = Generator::new(seed);

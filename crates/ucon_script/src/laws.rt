@@ -2,6 +2,7 @@
 
 ghost use Rattle.std.specs.Prelude.{◌≡◌, ◌≤◌, ◌++◌, ℕ, List, [], false, true, length, IsOkAnd, None, Ok};
 ghost use Rattle.ucon_model.specs.Document.{document_read, entries_of, lines_of, policy_part, script_lines, script_number, ScriptLine};
+ghost use Rattle.ucon_model.specs.Limits.{most_document, most_generated};
 ghost use Rattle.ucon_model.specs.Plain.{Bytes};
 ghost use Rattle.ucon_model.specs.Generated.{generated, generated_entries, generated_policy, text_of};
 ghost use Rattle.ucon_script.specs.declared.coming_script.ComingScript.{ComingScript};
@@ -24,10 +25,10 @@ pub fn documents_are_read_line_by_line()
 
 /// The script of a generated document is never refused: it says the generated entries. What stands before it is the generated policy.
 pub fn generated_documents_are_read()
-    ensures policy { (seed size : ℕ) → size ≤ 100000 → policy_part (generated seed size) ≡ text_of generated_policy }
-    ensures says { (seed size : ℕ) → size ≤ 100000
+    ensures policy { (seed size : ℕ) → size ≤ most_generated → policy_part (generated seed size) ≡ text_of generated_policy }
+    ensures says { (seed size : ℕ) → size ≤ most_generated
         → IsOkAnd (document_read accepted (generated seed size)) (λ lines. entries_of lines ≡ generated_entries seed size) }
-    ensures short { (seed size : ℕ) → size ≤ 100000 → length (generated seed size) ≤ 4194304 }
+    ensures short { (seed size : ℕ) → size ≤ most_generated → length (generated seed size) ≤ most_document }
 {
     commands_are_read_back();
 }

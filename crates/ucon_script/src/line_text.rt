@@ -1,6 +1,7 @@
 //! Command lines where they stand in a document.
 
 ghost use Rattle.std.specs.Prelude.{◌≡◌, ◌<◌, IfOk};
+ghost use Rattle.ucon_model.specs.Limits.{most_clients};
 
 use crate::Line;
 use std::alloc::Global;
@@ -8,7 +9,7 @@ use ucon_base::{NoMemory, Rows};
 use ucon_command::CommandLine;
 use ucon_model::Caller;
 
-/// A command line that was judged where it stands, below a heading of one of at most 64 clients. It takes 32 bytes of memory, and not the room of the
+/// A command line that was judged where it stands, below a heading of one of the clients. It takes 32 bytes of memory, and not the room of the
 /// longest command.
 #[derive(Clone, Copy)]
 pub struct LineText<'a> {
@@ -17,7 +18,7 @@ pub struct LineText<'a> {
     /// The line's number in the document, whose first line has number 1.
     pub number: u32,
     pub caller: Caller,
-    ghost few: { caller.0 < 64 },
+    ghost few: { caller.0 < most_clients },
 }
 
 impl<'a> LineText<'a> {

@@ -2,6 +2,7 @@
 
 ghost use Rattle.std.specs.Prelude.{◌≡◌, ◌≤◌, ◌+◌, [], length};
 ghost use Rattle.ucon_model.specs.Document.{document_read, lines_of, script_told};
+ghost use Rattle.ucon_model.specs.Limits.{most_document};
 ghost use Rattle.ucon_script.specs.Document.{Gives, lines_said, lines_spelled};
 ghost use Rattle.ucon_syntax.specs.Policies.{accepted};
 
@@ -13,7 +14,7 @@ use ucon_base::Rows;
 
 /// The command lines of a document, or the first line that is refused.
 pub fn read_document(alloc: Global, bytes: &[u8]) -> Result<Document, DocFault>
-    requires { length bytes.now ≤ 4194304 }
+    requires { length bytes.now ≤ most_document }
     ensures { Gives lines_said result (document_read accepted bytes.now) }
 {
     let script = read_script(alloc, bytes)?;
@@ -27,7 +28,7 @@ pub fn read_document(alloc: Global, bytes: &[u8]) -> Result<Document, DocFault>
 /// The command lines of a document where they stand, or the first line that is refused.
 #[tactic(auto, unfolding(ucon_model::specs::Document::document_read))]
 pub fn read_script(alloc: Global, bytes: &[u8]) -> Result<Script<'_>, DocFault>
-    requires { length bytes.now ≤ 4194304 }
+    requires { length bytes.now ≤ most_document }
     ensures { Gives lines_spelled result (document_read accepted bytes.now) }
 {
     match find_divider(bytes) {
@@ -41,7 +42,7 @@ pub fn read_script(alloc: Global, bytes: &[u8]) -> Result<Script<'_>, DocFault>
 
 /// The command lines of a script whose first line has this number.
 fn script_from(alloc: Global, number: u32, text: &[u8]) -> Result<Script<'_>, DocFault>
-    requires { number + length text.now ≤ 4194304 }
+    requires { number + length text.now ≤ most_document }
     ensures { Gives lines_spelled result (script_told accepted number [] (lines_of text.now)) }
 {
     let mut reader = ScriptReader::new(number);

@@ -3,6 +3,7 @@
 ghost use Rattle.std.specs.Prelude.{◌≡◌, ◌<◌, ◌+◌, Some, option_map, IfErr, IsFalse, IsTrue, MatchOption, OnErr, OnOk};
 ghost use Rattle.std.specs.Option.{ForSome};
 ghost use Rattle.ucon_model.specs.Document.{behind_first_word, is_heading, is_skipped, said_told, line_told};
+ghost use Rattle.ucon_model.specs.Limits.{most_clients, most_command_lines};
 ghost use Rattle.ucon_script.specs.Document.{Gives, IsSure, spelled_line};
 ghost use Rattle.ucon_script.specs.Lines.{client_after, count_after};
 ghost use Rattle.ucon_syntax.specs.Policies.{accepted};
@@ -14,9 +15,7 @@ use crate::{DocFault, LineText};
 use std::alloc::Global;
 use ucon_command::CommandLine;
 use ucon_model::Caller;
-
-/// The most command lines of a document.
-const MOST_LINES: u32 = 262_144;
+use ucon_model::limits::MOST_COMMAND_LINES;
 
 /// Reads a script's lines one by one, in their order.
 #[derive(Drop)]
@@ -27,7 +26,7 @@ pub struct ScriptReader {
     pub client: Option<Caller>,
     /// How many command lines stand above.
     pub said: u32,
-    ghost few: { ForSome client (λ c. c.0 < 64) },
+    ghost few: { ForSome client (λ c. c.0 < most_clients) },
 }
 
 impl ScriptReader {
@@ -83,15 +82,15 @@ fn command_line<'a>(
     said: u32,
     line: &'a [u8],
 ) -> Result<LineText<'a>, DocFault>
-    requires { ForSome client (λ c. c.0 < 64) }
+    requires { ForSome client (λ c. c.0 < most_clients) }
     ensures told { Gives (λ l. Some (spelled_line l)) result (said_told accepted number client said line.now) }
     ensures sure { IfErr result (IsSure (said_told accepted number client said line.now)) }
-    ensures room { OnOk result (said < 262144) }
+    ensures room { OnOk result (said < most_command_lines) }
 {
     let Some(caller) = client else {
         return Err(DocFault::BadHeading(number));
     };
-    if said >= MOST_LINES {
+    if said >= MOST_COMMAND_LINES {
         return Err(DocFault::TooManyLines(number));
     }
     match CommandLine::judge(alloc, line) {

@@ -14,7 +14,7 @@ pub enum ScriptStop {
     Refused(DocFault),
     /// The source failed.
     SourceFault,
-    /// The document has more than 4,194,304 bytes.
+    /// The document has more than `MOST_DOCUMENT` bytes.
     TooLong,
     NoMemory(NoMemory),
 }

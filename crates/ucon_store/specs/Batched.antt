@@ -6,6 +6,7 @@ use Rattle.ucon_model.specs.Action.{Trace}
 use Rattle.ucon_model.specs.Batches.{changing}
 use Rattle.ucon_model.specs.Block.{after, reply as reply_to}
 use Rattle.ucon_model.specs.History.{History, changes, serial, trace_from}
+use Rattle.ucon_model.specs.Limits.{most_batch}
 use Rattle.ucon_model.specs.Payload.{told, payload_spelling}
 use Rattle.ucon_model.specs.Plain.{Bytes, PlainPolicy, PlainReply}
 use Rattle.ucon_model.specs.Views.{reply_of}
@@ -63,7 +64,7 @@ pub record IsBatchedBehind {D : Type 0} (P : PlainPolicy) (T : Trace) (old new :
   pub mark : b.end ≡ DiskFault → new.mark ≡ Some (taken_behind P T old lines b)
   pub sure : b.end ≡ DiskFault → changing_after P (trace_from P T old.entries) (take (length b.placed.items) lines) ≡ []
   pub first : b.end ≡ DiskFault → changing_after P (trace_from P T old.entries) (take (length b.placed.items + 1) lines) ≢ []
-  pub few : (sum_by (λ p. 5 + length p) (batch_behind P T old lines b) ≤ 1048576) ⊎ (length (batch_behind P T old lines b) ≤ 1)
+  pub few : (sum_by (λ p. 5 + length p) (batch_behind P T old lines b) ≤ most_batch) ⊎ (length (batch_behind P T old lines b) ≤ 1)
 
 -- ---- behind a history
 

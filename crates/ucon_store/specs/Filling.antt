@@ -6,6 +6,7 @@ use Rattle.ucon_model.specs.Action.{Trace}
 use Rattle.ucon_model.specs.Batches.{AreTaken}
 use Rattle.ucon_model.specs.Found.{only_steps}
 use Rattle.ucon_model.specs.History.{History, trace, trace_from}
+use Rattle.ucon_model.specs.Limits.{most_batch}
 use Rattle.ucon_model.specs.Plain.{Bytes, PlainPolicy}
 use Rattle.ucon_model.specs.Work.{NobodyFails}
 use Rattle.ucon_journal.specs.declared.journal.Journal.{Journal}
@@ -55,7 +56,7 @@ pub record AreTakenUp {E : Type 0} (follows : E → PlainPolicy → Trace → Ty
 pub record IsSized (size : ℕ) (entries : History) (payloads : List Bytes) : Type 0 where
   pub is : size ≡ sum_by (λ p. 5 + length p) payloads
   pub each : length payloads ≡ length entries
-  pub within : (size ≤ 1048576) ⊎ (length payloads ≤ 1)
+  pub within : (size ≤ most_batch) ⊎ (length payloads ≤ 1)
   pub few : 5 * length entries ≤ size
   pub small : size ≤ 16777220
 

@@ -1,6 +1,7 @@
 -- A store as contracts see it, and what holds of it at every moment.
 use Rattle.std.specs.Prelude.{◌≡◌, refl, ℕ, ◌+◌, ◌*◌, ◌<◌, ◌≤◌, ◌^◌, length, Option, Some, None, option_map}
 use Rattle.std.specs.Coded.{Coded, code_by, coded_list, coded_option, coded_ℕ, coded×}
+use Rattle.ucon_model.specs.Limits.{most_accessing}
 use Rattle.ucon_model.specs.contracts.command.Entry as entry_row
 use Rattle.ucon_model.specs.declared.command.Caller.{Caller}
 use Rattle.ucon_model.specs.declared.command.Command.{Command}
@@ -52,9 +53,9 @@ pub record IsAtRestWith {D : Type 0} (seen : D → DiskSeen)
   pub few : 5 * entries ≤ gate_of journal
   pub only : Only (seen (disk_of journal)).contents (seen (disk_of journal)).images
 
--- behind a trace no reply ever has more than 65,536 revocations
+-- behind a trace no reply ever has more revocations than sessions may be accessing
 abbrev pub RevokesFew : PlainPolicy → Trace → Type 0
-RevokesFew P T = (H : History) (caller : Caller) (c : Command) → length (revocations_in (reply P (trace_from P T H) caller c)) ≤ 65536
+RevokesFew P T = (H : History) (caller : Caller) (c : Command) → length (revocations_in (reply P (trace_from P T H) caller c)) ≤ most_accessing
 
 -- Some trace leads to where the store begins, and behind each such trace no reply will have too many revocations. Without a mark the engine
 -- follows the store's entries behind each such trace, no accessing session fails, the text that is kept is that of the policy in force behind the

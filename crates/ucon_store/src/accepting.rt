@@ -2,6 +2,7 @@
 
 ghost use Rattle.std.specs.Prelude.{◌≡◌, ◌≤◌, length, IfOk, IfSome, option_map};
 ghost use Rattle.ucon_model.specs.Checked.{checked_policy};
+ghost use Rattle.ucon_model.specs.Limits.{most_policy};
 ghost use Rattle.ucon_syntax.specs.Policies.{accepted};
 ghost use Rattle.ucon_store.specs.Opening.{first_difference};
 
@@ -15,7 +16,7 @@ use ucon_syntax::{SyntaxFault, read_policy};
 #[tactic(auto, using(crate::proofs::Accepted::accepted_short))]
 pub(crate) fn read_accepted(alloc: Global, text: &[u8]) -> Result<Option<Checked>, NoMemory>
     ensures policy { IfOk result (λ read. accepted text.now ≡ option_map checked_policy read) }
-    ensures short { IfOk result (λ read. IfSome read (λ _. length text.now ≤ 65536)) }
+    ensures short { IfOk result (λ read. IfSome read (λ _. length text.now ≤ most_policy)) }
 {
     let policy = match read_policy(alloc, text) {
         Ok(policy) => policy,

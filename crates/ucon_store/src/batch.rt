@@ -8,6 +8,7 @@ ghost use Rattle.ucon_model.specs.declared.command.Entry.{Entry};
 ghost use Rattle.ucon_model.specs.Action.{Trace};
 ghost use Rattle.ucon_model.specs.Found.{taken};
 ghost use Rattle.ucon_model.specs.History.{History, said, changes};
+ghost use Rattle.ucon_model.specs.Limits.{most_accessing, most_clients};
 ghost use Rattle.ucon_model.specs.Payload.{payload_spelling, revocations_in};
 ghost use Rattle.ucon_model.specs.Plain.{PlainPolicy};
 ghost use Rattle.ucon_model.specs.Views.{reply_of};
@@ -25,17 +26,15 @@ use ucon_base::{NoMemory, Rows, Steps};
 use ucon_disk::Disk;
 use ucon_engine::Engine;
 use ucon_journal::{Journal, MAX_PAYLOAD};
+use ucon_model::limits::MOST_BATCH;
 use ucon_model::{Entry, Reply};
-
-/// The most bytes that the records of a batch have, gates and lengths included, if the batch has more than one.
-pub const MAX_BATCH: u64 = 1_048_576;
 
 /// Why a batch has no more lines.
 #[derive(Clone, Copy)]
 pub enum BatchEnd {
     /// There are no more.
     All,
-    /// With the record of the next one, the batch would have more than [`MAX_BATCH`] bytes. It can begin the next batch.
+    /// With the record of the next one, the batch would have more than [`MOST_BATCH`] bytes. It can begin the next batch.
     Full,
     /// There was no memory for the next one, which did nothing.
     NoMemory(NoMemory),
@@ -128,7 +127,7 @@ pub(crate) fn take_all<E: Engine, D: Disk>(
     batch: &mut Batch,
 ) -> BatchEnd
     requires idle { CanTakeUp E.follows engine.old }
-    requires clients { All (λ e. e.caller.0 < 64) lines.now }
+    requires clients { All (λ e. e.caller.0 < most_clients) lines.now }
     requires batch { IsBatch journal.old }
     requires nothing { (batch.old.placed.items ≡ []) × (batch.old.entries ≡ []) × (batch_of journal.old ≡ []) × (batch.old.size ≡ 0) }
     requires sure { batch.old.sure ≡ 0 }
@@ -168,7 +167,7 @@ fn take_up<E: Engine, D: Disk>(
     batch: &mut Batch,
 ) -> Result<(), BatchEnd>
     requires idle { CanTakeUp E.follows engine.old }
-    requires client { line.now.caller.0 < 64 }
+    requires client { line.now.caller.0 < most_clients }
     requires batch { IsBatch journal.old }
     requires sized { IsSized batch.old.size batch.old.entries (batch_of journal.old) }
     requires room { batch.old.before < 2 ^ 63 }
@@ -218,8 +217,8 @@ fn put_line<D: Disk>(
     reply: &Reply,
     batch: &mut Batch,
 ) -> Result<(), BatchEnd>
-    requires client { line.now.caller.0 < 64 }
-    requires few { length (revocations_in (reply_of reply.now)) ≤ 65536 }
+    requires client { line.now.caller.0 < most_clients }
+    requires few { length (revocations_in (reply_of reply.now)) ≤ most_accessing }
     requires batch { IsBatch journal.old }
     requires sized { IsSized batch.old.size batch.old.entries (batch_of journal.old) }
     ensures put { OnOk result (batch_of journal.new
@@ -246,7 +245,7 @@ fn put_line<D: Disk>(
     spell(alloc, payload, line.caller, &line.command, reply)?;
     in_force.prepare(&line.command)?;
     let size = batch.size + 5 + payload.len() as u64;
-    if size > MAX_BATCH && batch.entries.len() > 0 {
+    if size > MOST_BATCH && batch.entries.len() > 0 {
         return Err(BatchEnd::Full);
     }
     journal.put(payload)?;

@@ -78,7 +78,7 @@ pub enum PointFault {
     Stopped,
     /// The journal is of version 1, which has no checkpoints.
     OldJournal,
-    /// The checkpoint has more than 16,777,215 bytes: so many.
+    /// The checkpoint has more than `MAX_PAYLOAD` bytes: so many.
     TooLarge(u64),
     NoMemory(NoMemory),
 }

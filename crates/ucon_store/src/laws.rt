@@ -44,7 +44,7 @@ use ucon_state::{
 };
 use ucon_syntax::accepted_texts_spell_typed_policies;
 
-/// The journal of a proper history of commands of the 64 clients, in either version, is found as that history under its policy. Its last byte is
+/// The journal of a proper history of commands of the clients, in either version, is found as that history under its policy. Its last byte is
 /// the gate behind it.
 pub fn journals_are_found_as_their_histories()
     ensures { (version : ℕ) (text : Bytes) (P : PlainPolicy) (H : History) → IsVersion version → accepted text ≡ Some P → AreOfClients H
@@ -56,7 +56,7 @@ pub fn journals_are_found_as_their_histories()
 }
 
 /// A journal with checkpoints is found as its history under its policy, with its last byte as the gate behind it, and with its checkpoints at
-/// their places. It is in version 2, of a proper history of commands of the 64 clients, and each checkpoint fits its record.
+/// their places. It is in version 2, of a proper history of commands of the clients, and each checkpoint fits its record.
 pub fn journals_with_checkpoints_are_found()
     ensures { (text : Bytes) (P : PlainPolicy) (H : History) (places : List ℕ) → accepted text ≡ Some P → AreOfClients H → IsProper P H
         → ArePlaces 0 (length H) places → Each (λ place. length (checkpoint text P (take place H)) ≤ MAX_PAYLOAD) places
@@ -118,7 +118,7 @@ pub fn opening_sees_one_thing()
     the_least_failing_is_found();
 }
 
-/// What is there after a history of commands of the 64 clients, under a policy that a text spells, has rows of names, values and numbers. Each row
+/// What is there after a history of commands of the clients, under a policy that a text spells, has rows of names, values and numbers. Each row
 /// has its text.
 pub fn rows_of_histories_have_their_texts()
     ensures { (text : Bytes) (P : PlainPolicy) (H : History) → accepted text ≡ Some P → AreOfClients H

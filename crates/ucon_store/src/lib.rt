@@ -38,7 +38,7 @@ mod starting;
 mod store;
 mod walking;
 
-pub use batch::{BatchEnd, Batched, MAX_BATCH};
+pub use batch::{BatchEnd, Batched};
 pub use event::{Base, Event};
 pub use fault::{PointFault, StepFault, StoreFault};
 pub use laws::{

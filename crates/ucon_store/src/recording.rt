@@ -12,6 +12,7 @@ ghost use Rattle.ucon_model.specs.Block.{after};
 ghost use Rattle.ucon_model.specs.Found.{taken};
 ghost use Rattle.ucon_model.specs.History.{History, said, changes};
 ghost use Rattle.ucon_command.specs.Payloads.{told_of};
+ghost use Rattle.ucon_model.specs.Limits.{most_accessing, most_clients};
 ghost use Rattle.ucon_model.specs.Payload.{payload_spelling, revocations_in};
 ghost use Rattle.ucon_model.specs.Plain.{PlainPolicy};
 ghost use Rattle.ucon_model.specs.Views.{reply_of};
@@ -38,8 +39,8 @@ pub(crate) fn spell(
     command: &Command,
     reply: &Reply,
 ) -> Result<(), NoMemory>
-    requires client { caller.0 < 64 }
-    requires few { length (revocations_in (reply_of reply.now)) ≤ 65536 }
+    requires client { caller.0 < most_clients }
+    requires few { length (revocations_in (reply_of reply.now)) ≤ most_accessing }
     ensures taken { OnOk result ((P : PlainPolicy) (H : History)
         → reply_of reply.now ≡ said P H caller command.now → changes (reply_of reply.now) ≡ true
         → taken accepted P H payload.new.items ≡ Some (H ++ record { caller = caller; command = command.now } ∷ [])) }
@@ -62,8 +63,8 @@ pub(crate) fn prepare<D: Disk>(
     command: &Command,
     reply: &Reply,
 ) -> Result<(), NoMemory>
-    requires client { caller.0 < 64 }
-    requires few { length (revocations_in (reply_of reply.now)) ≤ 65536 }
+    requires client { caller.0 < most_clients }
+    requires few { length (revocations_in (reply_of reply.now)) ≤ most_accessing }
     ensures disk { disk_of journal.new ≡ disk_of journal.old }
     ensures closed { IsClosed D.seen journal.old → IsClosed D.seen journal.new }
     ensures gate { gate_of journal.new ≡ gate_of journal.old }

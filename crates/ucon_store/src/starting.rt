@@ -6,6 +6,7 @@ ghost use Rattle.ucon_disk.specs.Disk.{SameImages};
 ghost use Rattle.ucon_disk.specs.Run.{LeavesOnly};
 ghost use Rattle.ucon_journal.specs.Found.{counted, payloads_from};
 ghost use Rattle.ucon_journal.specs.Journal.{disk_of, gate_of, payload_of, version_of, IsReading};
+ghost use Rattle.ucon_model.specs.Limits.{most_policy};
 ghost use Rattle.ucon_syntax.specs.Policies.{accepted};
 ghost use Rattle.ucon_store.specs.Kept.{payload_in};
 ghost use Rattle.ucon_store.specs.Loading.{IsLoading, IsStanding};
@@ -64,7 +65,7 @@ pub(crate) fn start_first<E: Engine>(alloc: Global, text: &[u8]) -> Result<Loade
     ensures entries { IfOk result (λ l. l.entries ≡ []) }
     ensures records { IfOk result (λ l. l.records ≡ 1) }
     ensures standing { IfOk result (λ l. IsStanding E.follows l) }
-    ensures short { OnOk result (length text.now ≤ 65536) }
+    ensures short { OnOk result (length text.now ≤ most_policy) }
     ensures reason { IfErr result (λ fault. (fault ≡ StoreFault.NoMemory out_of_memory)
         ⊎ ((fault ≡ StoreFault.Damaged 0 8) × (accepted text.now ≡ None))) }
 {

@@ -9,6 +9,7 @@ ghost use Rattle.ucon_journal.specs.Journal.{told_payloads};
 ghost use Rattle.ucon_journal.specs.Opened.{opened};
 ghost use Rattle.ucon_model.specs.Action.{Trace};
 ghost use Rattle.ucon_model.specs.History.{History, changes};
+ghost use Rattle.ucon_model.specs.Limits.{most_clients};
 ghost use Rattle.ucon_model.specs.Plain.{PlainPolicy};
 ghost use Rattle.ucon_model.specs.Views.{reply_of};
 ghost use Rattle.ucon_model.specs.Work.{NobodyFails};
@@ -171,7 +172,7 @@ impl<E: Engine, D: Disk> Store<E, D> {
         caller: Caller,
         command: &Command,
     ) -> Result<Placed, StepFault>
-        requires { caller.0 < 64 }
+        requires { caller.0 < most_clients }
         ensures stopped { IsErrOf result StepFault.Stopped ↔ IsSome self.old.mark }
         ensures placed_behind { IfOk result (λ p. (P : PlainPolicy) (T : Trace) → accepted self.old.policy ≡ Some P
             → IsStart P self.old.point self.old.before T

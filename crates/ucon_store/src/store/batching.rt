@@ -9,6 +9,7 @@ ghost use Rattle.ucon_journal.specs.Journal.{told_payloads};
 ghost use Rattle.ucon_model.specs.Action.{Trace};
 ghost use Rattle.ucon_model.specs.Batches.{changing};
 ghost use Rattle.ucon_model.specs.History.{History};
+ghost use Rattle.ucon_model.specs.Limits.{most_clients};
 ghost use Rattle.ucon_model.specs.Plain.{PlainPolicy};
 ghost use Rattle.ucon_syntax.specs.Policies.{accepted};
 ghost use Rattle.ucon_store.specs.Batched.{IsBatched, IsBatchedBehind, batch_behind, payloads_after};
@@ -34,7 +35,7 @@ impl<E: Engine, D: Disk> Store<E, D> {
     ///
     /// It is for whoever owns the store: the events of a turn have one caller each, and a batch may have many.
     pub fn step_all(&mut self, alloc: Global, lines: &[Entry]) -> Batched
-        requires { All (λ e. e.caller.0 < 64) lines.now }
+        requires { All (λ e. e.caller.0 < most_clients) lines.now }
         ensures stopped { (result.end ≡ BatchEnd.Stopped) ↔ IsSome self.old.mark }
         ensures still { result.end ≡ BatchEnd.Stopped → (self.new ≡ self.old) × (result.taken ≡ 0) }
         ensures within { result.taken ≤ length lines.now }
