@@ -9,9 +9,13 @@ use Rattle.ucon_state.specs.Held.{Held, held_after}
 abbrev pub size_of : Held → ℕ
 size_of h = length (h.names Subject) + length (h.names Object) + length h.acts + h.sessions
 
--- so many steps behind the last one that was tried it is due: at least 4,096, and more than there are entities, acts and sessions
+-- the fewest steps from a checkpoint to the next one
+abbrev pub fewest_steps : ℕ
+fewest_steps = 4096
+
+-- so many steps behind the last one that was tried it is due: at least the fewest, and more than there are entities, acts and sessions
 abbrev pub is_due : ℕ → ℕ → Bool
-is_due since size = nat_le 4096 since && nat_lt size since
+is_due since size = nat_le fewest_steps since && nat_lt size since
 
 -- the same behind a history, where one was last tried behind so many of its steps
 abbrev pub is_due_after : PlainPolicy → ℕ → History → Bool

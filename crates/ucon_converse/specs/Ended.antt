@@ -6,6 +6,8 @@ use Rattle.ucon_disk.specs.Seen.{DiskSeen}
 use Rattle.ucon_journal.specs.Found.{counted}
 use Rattle.ucon_model.specs.Action.{Trace}
 use Rattle.ucon_model.specs.History.{History}
+use Rattle.ucon_model.specs.Limits.{most_request}
+use Rattle.ucon_model.specs.Payload.{most_payload}
 use Rattle.ucon_model.specs.Plain.{Bytes, PlainPolicy}
 use Rattle.ucon_outcome.specs.declared.outcome.Outcome.{Outcome}
 use Rattle.ucon_outcome.specs.declared.outcome.Outcome.TheVariants as outcomes
@@ -56,9 +58,10 @@ pub record IsTalkedOver {D : Type 0} (seen : D → DiskSeen) (first : Answering 
   pub result : Result (Unit {0}) TalkFault
   pub outcome_is : outcome ≡ ended_so result (is_some closed.store.mark)
   pub answered : (P : PlainPolicy) (T : Trace) → accepted first.store.policy ≡ Some P → IsStart P first.store.point first.store.before T
-      → HasAnsweredBy accepted P 65546 result (reached_by P T first.store) (reached_by P T closed.store) before now (hears result)
+      → HasAnsweredBy accepted P most_request result (reached_by P T first.store) (reached_by P T closed.store) before now (hears result)
   pub conversed : (P : PlainPolicy) (G : History) (places : List ℕ) → accepted first.store.policy ≡ Some P → IsFront P first.store G → first.store.mark ≡ None
-      → HasConversedBy accepted P first.store.policy (IsDated (seen first.store.disk).contents) 65546 result (standing G places first) (standing G places closed)
+      → HasConversedBy accepted P first.store.policy (IsDated (seen first.store.disk).contents) most_request result
+      (standing G places first) (standing G places closed)
       before now (seen closed.store.disk) (IsFoundedAt seen P first G places) (hears result)
 
 -- ---- over a journal that was found as a history
@@ -87,7 +90,7 @@ pub record IsHeldBehindBy (reads : PolicyReading) (text : Bytes) (P : PlainPolic
   pub result : Result (Unit {0}) TalkFault
   pub last : Standing
   pub outcome_is : outcome ≡ ended_so result (is_some last.failed)
-  pub conversed : HasConversedBy reads P text (IsOld file) 65546 result (opened_on file opening) last before now new ⊤ (hears result)
+  pub conversed : HasConversedBy reads P text (IsOld file) most_request result (opened_on file opening) last before now new ⊤ (hears result)
   pub unfailed : last.failed ≡ None → new.faults ≡ old.faults
   pub failed : (es : History) → last.failed ≡ Some es → new.faults ≡ raised old.faults
   pub since : LeavesOnly old new (λ c. old.images c ⊎ IsFoundSinceBy reads text opening last.history last.failed c)
@@ -116,7 +119,7 @@ pub record IsAnsweredOverBy (reads : PolicyReading) (text : Bytes) (P : PlainPol
   pub result : Result (Unit {0}) TalkFault
   pub last : Reached
   pub outcome_is : outcome ≡ ended_so result (is_some last.failed)
-  pub answered : HasAnsweredBy reads P 65546 result first last before now (hears result)
+  pub answered : HasAnsweredBy reads P most_request result first last before now (hears result)
   pub unfailed : last.failed ≡ None → new.faults ≡ old.faults
   pub failed : (es : History) → last.failed ≡ Some es → new.faults ≡ raised old.faults
 
@@ -181,7 +184,7 @@ pub record IsOnlyRead (old new : DiskSeen) : Type 0 where
 
 -- it has more bytes than a record may have, or is refused as a policy
 abbrev pub IsNoPolicy : Bytes → Type 0
-IsNoPolicy text = (16777215 < length text) ⊎ ((f : PolicyFault) × IsPolicyFaultOf f text)
+IsNoPolicy text = (most_payload < length text) ⊎ ((f : PolicyFault) × IsPolicyFaultOf f text)
 
 abbrev pub HasBadFirst : Bytes → Type 0
 HasBadFirst file = (text : Bytes) × HasFirst text file × IsNoPolicy text

@@ -2,6 +2,7 @@
 use Rattle.std.specs.Prelude.{◌≡◌, ◌⊎◌, ◌<◌, [], ◌∷◌, ◌++◌, length, Option, false, codes}
 use Rattle.std.specs.Io.KnownBytes.{Consumes, IsAtEnd}
 use Rattle.ucon_model.specs.Document.{is_divider, policy_part}
+use Rattle.ucon_model.specs.Limits.{most_document}
 use Rattle.ucon_model.specs.Plain.{Bytes}
 use Rattle.ucon_converse.specs.declared.policy_text.Kind.{Kind}
 use Rattle.ucon_converse.specs.declared.policy_text.Kind.TheVariants.{Line, Divider, LastDivider, Last}
@@ -29,14 +30,14 @@ TakesPolicy held_before held left_before left text =
 pub record IsLongSoFar (held_before : Bytes) (left_before left : Option Bytes) : Type 0 where
   pub read : Bytes
   pub consumed : Consumes left_before left read
-  pub long : (more : Bytes) → 4194304 < length (policy_part ((held_before ++ read) ++ more))
+  pub long : (more : Bytes) → most_document < length (policy_part ((held_before ++ read) ++ more))
 
 -- the input was read to its end, and its policy part has more bytes than that
 pub record IsLongPart (held_before : Bytes) (left_before left : Option Bytes) : Type 0 where
   pub read : Bytes
   pub consumed : Consumes left_before left read
   pub ended : IsAtEnd left
-  pub long : 4194304 < length (policy_part (held_before ++ read))
+  pub long : most_document < length (policy_part (held_before ++ read))
 
 abbrev pub IsLongPolicy : Bytes → Option Bytes → Option Bytes → Type 0
 IsLongPolicy held_before left_before left = IsLongSoFar held_before left_before left ⊎ IsLongPart held_before left_before left

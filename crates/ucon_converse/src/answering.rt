@@ -6,6 +6,7 @@ ghost use Rattle.ucon_model.specs.CommandLine.{line_read};
 ghost use Rattle.ucon_model.specs.declared.command.Caller.{Caller as Caller'};
 ghost use Rattle.ucon_flow.specs.Lines.{HasNewline, newline};
 ghost use Rattle.ucon_model.specs.History.{History};
+ghost use Rattle.ucon_model.specs.Limits.{most_clients};
 ghost use Rattle.ucon_model.specs.Plain.{Bytes, PlainPolicy};
 ghost use Rattle.ucon_store.specs.Whole.{IsFront};
 ghost use Rattle.ucon_syntax.specs.Policies.{accepted};
@@ -68,7 +69,7 @@ fn answer_together<E: Engine, D: Disk>(
 ) -> Result<usize, NoMemory>
     requires led { IsLed store.old }
     requires front { (rest : Bytes) × AreInFront limit lines.now came.now rest }
-    requires clients { All (λ e. e.caller.0 < 64) lines.now }
+    requires clients { All (λ e. e.caller.0 < most_clients) lines.now }
     requires some { 0 < length lines.now }
     requires unmarked { store.old.mark ≡ None }
     requires due { (P : PlainPolicy) (G : History) → accepted store.old.policy ≡ Some P → IsFront P store.old G

@@ -5,6 +5,7 @@ ghost use Rattle.std.specs.Io.KnownBytes.{Appends};
 ghost use Rattle.ucon_flow.specs.Causes.{raised};
 ghost use Rattle.ucon_model.specs.Action.{Trace};
 ghost use Rattle.ucon_model.specs.History.{History};
+ghost use Rattle.ucon_model.specs.Limits.{most_request};
 ghost use Rattle.ucon_model.specs.Plain.{PlainPolicy};
 ghost use Rattle.ucon_store.specs.Starts.{IsStart};
 ghost use Rattle.ucon_store.specs.Whole.{IsFront};
@@ -25,9 +26,6 @@ use ucon_flow::{LineReader, SinkFault, Source};
 use ucon_model::runs_over_a_store_are_legal;
 use ucon_tell::{TalkFault, Voice, talk, tell_all};
 
-/// The most bytes of a line, with its newline: a client's number, a space and the longest command, an amendment.
-pub const MOST_LINE: usize = 65_546;
-
 /// Tells how many steps are there, and then answers the lines that come, each by one line. It tells each before it reads more of the input, which no
 /// clause says. A line is refused only if it is no request, no reading, and asks for no checkpoint. The answers to requests are a legal run in text order,
 /// behind each history that leads to where the store begins; behind a checkpoint that met a disk fault each is `stopped`. From the moment at which the
@@ -39,15 +37,17 @@ pub fn hold<E: Engine, S: Source, D: Disk, V: Voice<StoreKeeper<E, D>>>(
     input: &mut S,
     out: &mut V,
 ) -> Result<(), TalkFault>
-    requires { lines.old.limit ≡ 65546 }
+    requires { lines.old.limit ≡ most_request }
     ensures conversed { (P : PlainPolicy) (G : History) (places : List ℕ) → accepted keeper.old.store.policy ≡ Some P → IsFront P keeper.old.store G
         → keeper.old.store.mark ≡ None
-        → HasConversedBy accepted P keeper.old.store.policy (IsDated (D.seen keeper.old.store.disk).contents) 65546 result (standing G places keeper.old)
-        (standing G places keeper.new) (V.seen out.old) (V.seen out.new) (D.seen keeper.new.store.disk) (IsFoundedAt D.seen P keeper.old G places)
+        → HasConversedBy accepted P keeper.old.store.policy (IsDated (D.seen keeper.old.store.disk).contents) most_request result
+        (standing G places keeper.old) (standing G places keeper.new) (V.seen out.old) (V.seen out.new)
+        (D.seen keeper.new.store.disk) (IsFoundedAt D.seen P keeper.old G places)
         (Hears result lines.old.held lines.new.held (S.seen input.old).left (S.seen input.new).left) }
     ensures answered { (P : PlainPolicy) (T : Trace) → accepted keeper.old.store.policy ≡ Some P
         → IsStart P keeper.old.store.point keeper.old.store.before T
-        → HasAnsweredBy accepted P 65546 result (reached_by P T keeper.old.store) (reached_by P T keeper.new.store) (V.seen out.old) (V.seen out.new)
+        → HasAnsweredBy accepted P most_request result (reached_by P T keeper.old.store) (reached_by P T keeper.new.store)
+        (V.seen out.old) (V.seen out.new)
         (Hears result lines.old.held lines.new.held (S.seen input.old).left (S.seen input.new).left) }
     ensures keeps { Keeps D.seen keeper.old keeper.new }
     ensures limit { lines.new.limit ≡ lines.old.limit }

@@ -28,7 +28,7 @@ mod requests;
 mod telling;
 mod together;
 
-pub use holding::{MOST_LINE, hold};
+pub use holding::hold;
 pub use keeper::StoreKeeper;
 pub use laws::{readings_are_no_requests, readings_are_read_back};
 pub use opening::{PolicyFrom, converse};

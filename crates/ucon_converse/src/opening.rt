@@ -2,20 +2,22 @@
 
 ghost use Rattle.std.specs.Prelude.{◌≡◌, ◌⊎◌, [], None, IsSome};
 ghost use Rattle.ucon_converse.specs.Keeping.{IsLed};
+ghost use Rattle.ucon_model.specs.Limits.{most_request};
 ghost use Rattle.ucon_syntax.specs.Policies.{accepted};
 ghost use Rattle.ucon_outcome.specs.Ending.{IsCounted, status_of};
 ghost use Rattle.ucon_tell.specs.Heard.{Hears};
 ghost use Rattle.ucon_converse.specs.Ended.{EndsBehindPolicyBy, EndsUnderBy, EndsUnderRecordBy, HasNoPolicy, HasNoRecord, IsTalkedOver, IsUntouched, ended_so, record_refused};
 
-use crate::holding::{MOST_LINE, hold};
+use crate::holding::hold;
 use crate::keeper::StoreKeeper;
-use crate::policy_text::{MOST_POLICY, accept, policy_text};
+use crate::policy_text::{accept, policy_text};
 use crate::recorded::recorded_policy;
 use std::alloc::Global;
 use ucon_disk::Disk;
 use ucon_engine::Engine;
 use ucon_flow::{LineReader, Source};
 use ucon_journal::FIRST_GATE;
+use ucon_model::limits::{MOST_DOCUMENT, MOST_REQUEST};
 use ucon_outcome::{Ended, Outcome, Refused};
 use ucon_store::Store;
 use ucon_tell::{TalkFault, Voice};
@@ -69,7 +71,7 @@ fn converse_under_input<E: Engine, S: Source, D: Disk, V: Voice<StoreKeeper<E, D
     ensures source { IsCounted result.outcome Outcome.SourceFault (S.seen input.old).faults (S.seen input.new).faults }
     ensures sink { IsCounted result.outcome Outcome.SinkFault (V.seen out.old).faults (V.seen out.new).faults }
 {
-    let mut lines = LineReader::new(alloc, MOST_POLICY);
+    let mut lines = LineReader::new(alloc, MOST_DOCUMENT);
     let text = match policy_text(alloc, &mut lines, input) {
         Ok(text) => text,
         Err(fault) => return Ended::by(Outcome::from(fault), disk),
@@ -101,7 +103,7 @@ fn converse_under_record<E: Engine, S: Source, D: Disk, V: Voice<StoreKeeper<E, 
     };
     match accept(alloc, &text) {
         Ok(()) => {
-            let mut lines = LineReader::new(alloc, MOST_LINE);
+            let mut lines = LineReader::new(alloc, MOST_REQUEST);
             converse_under(alloc, &text, &mut lines, input, out, disk)
         }
         Err(refused) => Ended::by(refused_record(refused), disk),
@@ -139,7 +141,7 @@ fn converse_under<E: Engine, S: Source, D: Disk, V: Voice<StoreKeeper<E, D>>>(
 {
     match Store::<E, D>::open(alloc, text, disk) {
         Ok(store) => {
-            lines.limit_to(MOST_LINE);
+            lines.limit_to(MOST_REQUEST);
             converse_over(alloc, store, lines, input, out)
         }
         Err((disk, fault)) => Ended::by(Outcome::from(fault), disk),
@@ -155,7 +157,7 @@ fn converse_over<E: Engine, S: Source, D: Disk, V: Voice<StoreKeeper<E, D>>>(
     out: &mut V,
 ) -> Ended<D>
     requires led { IsLed store }
-    requires limit { lines.old.limit ≡ 65546 }
+    requires limit { lines.old.limit ≡ most_request }
     ensures status { result.status ≡ status_of result.outcome }
     ensures talked { IsTalkedOver D.seen (record { store = store; made = []; tried = store.before }) result.disk result.outcome
         (V.seen out.old) (V.seen out.new)

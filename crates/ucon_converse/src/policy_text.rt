@@ -3,6 +3,7 @@
 ghost use Rattle.std.specs.Prelude.{◌≡◌, ◌≢◌, ◌+◌, ◌<◌, ◌++◌, length, IfErr, IfOk, IsErrOf, IsSome, OnOk};
 ghost use Rattle.ucon_flow.specs.Causes.{raised};
 ghost use Rattle.ucon_model.specs.Document.{is_divider};
+ghost use Rattle.ucon_model.specs.Limits.{most_document};
 ghost use Rattle.ucon_syntax.specs.Policies.{accepted};
 ghost use Rattle.ucon_converse.specs.PolicyPart.{IsKindOf, IsLongPolicy, TakesPolicy};
 ghost use Rattle.ucon_converse.specs.PolicyFaults.{IsRefusedText};
@@ -10,11 +11,9 @@ ghost use Rattle.ucon_converse.specs.PolicyFaults.{IsRefusedText};
 use std::alloc::Global;
 use ucon_check::check;
 use ucon_flow::{LineReader, ReadFault, Source};
+use ucon_model::limits::MOST_DOCUMENT;
 use ucon_outcome::Refused;
 use ucon_syntax::read_policy;
-
-/// The most bytes of a policy.
-pub const MOST_POLICY: usize = 4_194_304;
 
 /// What a line in front of a conversation is.
 #[derive(Clone, Copy)]
@@ -35,7 +34,7 @@ pub(crate) fn policy_text<S: Source>(
     lines: &mut LineReader,
     input: &mut S,
 ) -> Result<Vec<u8>, ReadFault>
-    requires { lines.old.limit ≡ 4194304 }
+    requires { lines.old.limit ≡ most_document }
     ensures text { IfOk result (λ text. TakesPolicy lines.old.held lines.new.held (S.seen input.old).left (S.seen input.new).left text.items) }
     ensures too_long { IsErrOf result ReadFault.TooLong → IsLongPolicy lines.old.held (S.seen input.old).left (S.seen input.new).left }
     ensures failed { IsErrOf result ReadFault.SourceFault → (S.seen input.new).faults ≡ raised (S.seen input.old).faults }
@@ -62,10 +61,10 @@ pub(crate) fn policy_text<S: Source>(
 /// Adds a line to a policy's text.
 fn put_line(text: &mut Vec<u8>, line: &[u8]) -> Result<(), ReadFault>
     ensures ok { OnOk result (text.new.items ≡ text.old.items ++ line.now) }
-    ensures too_long { IsErrOf result ReadFault.TooLong → 4194304 < length text.old.items + length line.now }
+    ensures too_long { IsErrOf result ReadFault.TooLong → most_document < length text.old.items + length line.now }
     ensures unfailed { result ≢ Err ReadFault.SourceFault }
 {
-    if line.len() > MOST_POLICY.saturating_sub(text.len()) {
+    if line.len() > MOST_DOCUMENT.saturating_sub(text.len()) {
         return Err(ReadFault::TooLong);
     }
     text.extend_from_slice(line)?;

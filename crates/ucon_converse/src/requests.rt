@@ -5,6 +5,7 @@ ghost use Rattle.ucon_model.specs.declared.command.Command.{Command as Command'}
 ghost use Rattle.ucon_model.specs.Action.{Trace};
 ghost use Rattle.ucon_model.specs.CommandLine.{line_read};
 ghost use Rattle.ucon_model.specs.History.{History};
+ghost use Rattle.ucon_model.specs.Limits.{most_clients};
 ghost use Rattle.ucon_model.specs.Plain.{PlainPolicy};
 ghost use Rattle.ucon_store.specs.Starts.{IsStart};
 ghost use Rattle.ucon_store.specs.Whole.{IsFront};
@@ -33,7 +34,7 @@ pub(crate) fn take_and_rest<E: Engine, D: Disk>(
     request: &Request<'_>,
 ) -> Result<Placed, StepFault>
     requires led { IsLed store.old }
-    requires few { request.now.caller.0 < 64 }
+    requires few { request.now.caller.0 < most_clients }
     ensures step { (P : PlainPolicy) (G : History) (places : List ℕ) (c : Command') → accepted store.old.policy ≡ Some P → IsFront P store.old G
         → line_read accepted request.now.command.text.now ≡ Ok c
         → StepsAndRests (IsDated (D.seen store.old.disk).contents) P store.old.policy (standing G places (answering store.old points.old))
@@ -59,7 +60,7 @@ fn take<E: Engine, D: Disk>(
     request: &Request<'_>,
 ) -> Result<Placed, StepFault>
     requires led { IsLed store.old }
-    requires few { request.now.caller.0 < 64 }
+    requires few { request.now.caller.0 < most_clients }
     ensures step { (P : PlainPolicy) (G : History) (points : List ℕ) (tried : ℕ) (c : Command') → accepted store.old.policy ≡ Some P
         → IsFront P store.old G → line_read accepted request.now.command.text.now ≡ Ok c
         → IsStep P (stands G points tried store.old) (stands G points tried store.new)

@@ -5,6 +5,7 @@ ghost use Rattle.ucon_base.specs.Elements.{Each};
 ghost use Rattle.ucon_flow.specs.Lines.{IsBare};
 ghost use Rattle.ucon_model.specs.Action.{Trace};
 ghost use Rattle.ucon_model.specs.History.{History};
+ghost use Rattle.ucon_model.specs.Limits.{most_clients};
 ghost use Rattle.ucon_model.specs.Plain.{Bytes, PlainPolicy};
 ghost use Rattle.ucon_store.specs.Starts.{IsStart};
 ghost use Rattle.ucon_store.specs.Whole.{IsFront};
@@ -37,7 +38,7 @@ pub(crate) fn batch_in_front<E: Engine, D: Disk>(
     limit: usize,
 ) -> Vec<Entry>
     ensures front { 0 < length result.items → (rest : Bytes) × AreInFront limit result.items came.now rest }
-    ensures clients { All (λ e. e.caller.0 < 64) result.items }
+    ensures clients { All (λ e. e.caller.0 < most_clients) result.items }
     ensures unmarked { 0 < length result.items → store.now.mark ≡ None }
     ensures due { 0 < length result.items → (P : PlainPolicy) (G : History) → accepted store.now.policy ≡ Some P → IsFront P store.now G
         → IsNoneDueBefore P tried (G ++ store.now.entries) (length result.items) }
@@ -63,7 +64,7 @@ fn has_two_lines(came: &[u8], limit: usize) -> bool {
 /// The requests in front of what came, at most so many: as far as lines are whole, fit the limit, and are requests for which there is memory.
 pub(crate) fn requests_in_front(alloc: Global, came: &[u8], limit: usize, most: usize) -> Vec<Entry>
     ensures front { (rest : Bytes) × AreInFront limit result.items came.now rest }
-    ensures clients { All (λ e. e.caller.0 < 64) result.items }
+    ensures clients { All (λ e. e.caller.0 < most_clients) result.items }
     ensures few { length result.items ≤ most }
 {
     let mut lines = Vec::new(alloc);
@@ -86,7 +87,7 @@ pub(crate) fn requests_in_front(alloc: Global, came: &[u8], limit: usize, most: 
 /// is no request, or there is no memory for it.
 fn request_in_front(alloc: Global, came: &[u8], limit: usize) -> Option<(Entry, usize)>
     ensures front { IfSome result (λ r. IsInFront limit r.0 r.1 came.now) }
-    ensures client { IfSome result (λ r. r.0.caller.0 < 64) }
+    ensures client { IfSome result (λ r. r.0.caller.0 < most_clients) }
     ensures within { IfSome result (λ r. r.1 ≤ length came.now) }
 {
     let line = line_in_front(came, limit)?;
@@ -113,7 +114,7 @@ pub(crate) fn take_together<E: Engine, D: Disk>(
     lines: &[Entry],
 ) -> Batched
     requires led { IsLed store.old }
-    requires clients { All (λ e. e.caller.0 < 64) lines.now }
+    requires clients { All (λ e. e.caller.0 < most_clients) lines.now }
     requires some { 0 < length lines.now }
     requires unmarked { store.old.mark ≡ None }
     requires due { (P : PlainPolicy) (G : History) → accepted store.old.policy ≡ Some P → IsFront P store.old G

@@ -1,5 +1,6 @@
 -- Which documents are accepted, and why others are refused.
 use Rattle.std.specs.Prelude.{◌≡◌, ◌≤◌, List, length, Some, option_map, Ok, ⊤}
+use Rattle.ucon_model.specs.Limits.{most_document}
 use Rattle.ucon_model.specs.Plain.{Bytes, PlainPolicy}
 use Rattle.ucon_model.specs.Document.{ScriptLine, policy_part, document_read}
 use Rattle.ucon_model.specs.Typing.{IsTyped, type_fault}
@@ -28,7 +29,7 @@ pub record HasSomePolicy (bytes : Bytes) : Type 0 where
 
 -- a document has a policy, and its script says these lines
 pub record IsAcceptedBy (reads : PolicyReading) (bytes : Bytes) : Type 0 where
-  pub short : length bytes ≤ 4194304
+  pub short : length bytes ≤ most_document
   pub policy : PlainPolicy
   pub lines : List ScriptLine
   pub has_policy : HasPolicy bytes policy
@@ -55,8 +56,8 @@ abbrev pub IsScriptFaultBy : PolicyReading → DocFault → Bytes → Type 0
 IsScriptFaultBy reads (faults.NoMemory e) bytes = ⊥
 IsScriptFaultBy reads f bytes = HasScriptFaultBy reads bytes f
 
--- a run that ended so was refused its document by this cause, which is of at most 4,194,304 bytes
+-- a run that ended so was refused its document by this cause, which is not too long
 abbrev pub IsRefusedSo : PolicyReading → Outcome → Bytes → Type 0
-IsRefusedSo reads (outcomes.Policy f) bytes = (length bytes ≤ 4194304) × IsPolicyFault f bytes
-IsRefusedSo reads (outcomes.Script f) bytes = (length bytes ≤ 4194304) × IsScriptFaultBy reads f bytes
+IsRefusedSo reads (outcomes.Policy f) bytes = (length bytes ≤ most_document) × IsPolicyFault f bytes
+IsRefusedSo reads (outcomes.Script f) bytes = (length bytes ≤ most_document) × IsScriptFaultBy reads f bytes
 IsRefusedSo reads outcome bytes = ⊤

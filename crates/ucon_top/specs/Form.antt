@@ -9,6 +9,7 @@ use Rattle.ucon_model.specs.CommandLine.{name_in}
 use Rattle.ucon_model.specs.Document.{number_spelled}
 use Rattle.ucon_model.specs.LegalRun.{in_text_order, own_answers}
 use Rattle.ucon_client.specs.Dividing.{by_client}
+use Rattle.ucon_model.specs.Limits.{most_generated}
 use Rattle.ucon_model.specs.Plain.{Bytes}
 use Rattle.ucon_top.specs.declared.form.Form.{Form}
 use Rattle.ucon_top.specs.declared.form.Form.TheVariants.{Trial, Check, Gen, Play, Serve, Board, Live, Point, Audit, Report, Explain}
@@ -22,9 +23,9 @@ word_form word = if bytes_eq word (codes "trial") then Some Trial else if bytes_
 abbrev pub seed_of : ℕ → Option ℕ
 seed_of n = if nat_lt n (2 ^ 64) then Some n else None
 
--- 1 to 100000
+-- from 1 on, as far as a generated document goes
 abbrev pub size_of : ℕ → Option ℕ
-size_of n = if nat_le 1 n && nat_le n 100000 then Some n else None
+size_of n = if nat_le 1 n && nat_le n most_generated then Some n else None
 
 -- `gen` with a seed and a size, in decimal without leading zeros
 abbrev pub gen_form : (word seed size : Bytes) → Option Form
@@ -77,7 +78,7 @@ asked words = form_of (map (λ w. string_bytes w) words)
 
 -- a size that words can ask for
 abbrev pub HasSize : Form → Type 0
-HasSize (Gen seed size) = size ≤ 100000
+HasSize (Gen seed size) = size ≤ most_generated
 HasSize form = ⊤
 
 -- the form runs its document over a journal

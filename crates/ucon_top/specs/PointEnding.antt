@@ -6,6 +6,7 @@ use Rattle.ucon_disk.specs.Run.{LeavesOnly}
 use Rattle.ucon_flow.specs.Writing.{AppendsPrefix}
 use Rattle.ucon_model.specs.Action.{Trace}
 use Rattle.ucon_model.specs.History.{History}
+use Rattle.ucon_model.specs.Payload.{most_payload}
 use Rattle.ucon_model.specs.Plain.{Bytes, PlainPolicy}
 use Rattle.ucon_store.specs.Found.{IsFoundAs}
 use Rattle.ucon_store.specs.Kept.{Kept}
@@ -55,7 +56,7 @@ module _ {D : Type 0} (seen : D → DiskSeen) where
     EndsPoint SinkFault = IsPut P store disk × AppendsPrefix before now (point_line (store.before + length store.entries))
     EndsPoint DiskFault = BehindEach P store (λ s. LeavesPointed s disk) × ((seen disk).faults ≡ raised (seen store.disk).faults)
     EndsPoint (NoMemory e) = disk ≡ store.disk
-    EndsPoint (FullPoint size) = (disk ≡ store.disk) × MayHavePoints store × (16777215 < size)
+    EndsPoint (FullPoint size) = (disk ≡ store.disk) × MayHavePoints store × (most_payload < size)
         × ((T : Trace) → IsStart P store.point store.before T
         → size ≡ length (checkpoint_behind store.policy store.point store.before P T store.entries))
     EndsPoint OldJournal = (disk ≡ store.disk) × IfSome (seen store.disk).contents (λ file. has_points file ≡ false)

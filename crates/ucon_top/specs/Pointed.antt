@@ -7,6 +7,7 @@ use Rattle.ucon_flow.specs.Writing.{AppendsPrefix}
 use Rattle.ucon_model.specs.Document.{policy_part}
 use Rattle.ucon_model.specs.Action.{Trace}
 use Rattle.ucon_model.specs.History.{History}
+use Rattle.ucon_model.specs.Payload.{most_payload}
 use Rattle.ucon_model.specs.Plain.{Bytes, PlainPolicy}
 use Rattle.ucon_store.specs.declared.fault.StoreFault.TheVariants as stores
 use Rattle.ucon_store.specs.Found.{IsFoundBy}
@@ -36,7 +37,7 @@ IsCheckpointSize text P H size = size ≡ length (checkpoint text P H)
 
 -- it is no longer than a record may be
 abbrev pub FitsRecord : (text : Bytes) (P : PlainPolicy) (H : History) → Type 0
-FitsRecord text P H = length (checkpoint text P H) ≤ 16777215
+FitsRecord text P H = length (checkpoint text P H) ≤ most_payload
 
 -- A file that was found as this history still is. A crash at any moment since leaves what a crash could leave before, or one that is found as it and
 -- is of the first kind; a crash now leaves one that is found as it and is of the second.
@@ -87,7 +88,7 @@ MayHavePointBy reads bytes old new =
 -- the file isn't old, and the checkpoint of what opening saw has so many bytes, which are more than a record may have
 pub record IsFullBy (reads : PolicyReading) (text : Bytes) (contents : Option Bytes) (size : ℕ) (P : PlainPolicy) (entries : ℕ) (actions : Trace) : Type 0 where
   pub young : IfSome contents IsNotOld
-  pub large : 16777215 < size
+  pub large : most_payload < size
   pub payload : Bytes
   pub is : IsCheckpointThereBy reads text contents P entries actions payload
   pub size_is : size ≡ length payload

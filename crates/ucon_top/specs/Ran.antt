@@ -3,6 +3,7 @@
 use Rattle.std.specs.Prelude.{◌≡◌, ◌≢◌, ◌⊎◌, ◌<◌, ◌≤◌, ◌+◌, length, Option, None, Some, IfSome, ⊤}
 use Rattle.std.specs.Io.KnownBytes.{IsAtEnd}
 use Rattle.ucon_disk.specs.Causes.{raised}
+use Rattle.ucon_model.specs.Limits.{most_document}
 use Rattle.ucon_outcome.specs.declared.outcome.Outcome.{Outcome}
 use Rattle.ucon_outcome.specs.declared.outcome.Outcome.TheVariants.{Done, Usage, SourceFault, SinkFault, DiskFault, TooLong}
 use Rattle.ucon_top.specs.declared.form.Form.{Form}
@@ -26,7 +27,7 @@ pub record HasCauses (reads : PolicyReading) (asked : Form) (ended : Outcome) (b
   pub usage : ended ≢ Usage
   pub form : MayEnd asked ended
   pub source : ReadsWhole asked → IsCounted ended SourceFault before.source.faults after.source.faults
-  pub too_long : ended ≡ TooLong → IfSome before.source.left (λ bytes. 4194304 < length bytes)
+  pub too_long : ended ≡ TooLong → IfSome before.source.left (λ bytes. most_document < length bytes)
   pub refused : ReadsWhole asked → IfSome (document_of asked before.source.left) (IsRefusedSo reads ended)
   pub accepted : ReadsWhole asked → IsOfAccepted ended → IfSome (document_of asked before.source.left) (IsAcceptedBy reads)
   pub sink : IsCounted ended SinkFault before.sink.faults after.sink.faults
@@ -51,7 +52,7 @@ pub record HasMade (reads : PolicyReading) (asked : Form) (ended : Outcome) (bef
 -- is as it was if the document is refused or wasn't had, and if the form has no journal. What `live` leaves is said with its run.
 pub record HasLeft (reading : PolicyReading) (asked : Form) (ended : Outcome) (before after : Seen) : Type 0 where
   pub read : ReadsWhole asked → IsOfAccepted ended → ReadsInput asked → IsAtEnd after.source.left
-  pub reads : ReadsWhole asked → after.source.reads ≤ before.source.reads + 4194305
+  pub reads : ReadsWhole asked → after.source.reads ≤ before.source.reads + (most_document + 1)
   pub unread : (ReadsInput asked → ⊥) → after.source ≡ before.source
   pub untouched : ReadsWhole asked → IsUntouched ended → IsAsBefore before.disk after.disk
   pub unaccepted : ReadsWhole asked

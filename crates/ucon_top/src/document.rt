@@ -3,6 +3,7 @@
 ghost use Rattle.std.specs.Prelude.{◌≡◌, ◌≤◌, length, Ok, IfOk, IfErr, OnOk};
 ghost use Rattle.ucon_model.specs.Checked.{checked_policy};
 ghost use Rattle.ucon_model.specs.Document.{document_read, entries_of};
+ghost use Rattle.ucon_model.specs.Limits.{most_document};
 ghost use Rattle.ucon_script.specs.Document.{lines_spelled};
 ghost use Rattle.ucon_top.specs.Accepted.{HasPolicy, HasSomePolicy};
 ghost use Rattle.ucon_top.specs.Form.{IsAlone};
@@ -23,7 +24,7 @@ use ucon_trial::{models_text, trial_output, trial_summary};
 
 /// What a form without a journal prints of the document that the bytes are, or why the document is refused.
 pub fn output_of<E: Engine>(alloc: Global, form: Form, bytes: &[u8]) -> Result<Vec<u8>, Refused>
-    requires short { length bytes.now ≤ 4194304 }
+    requires short { length bytes.now ≤ most_document }
     requires alone { IsAlone form }
     ensures ok { IfOk result (λ text. IsOutputOf form bytes.now text.items) }
     ensures err { IfErr result (λ r. IsRefused r bytes.now) }
@@ -36,7 +37,7 @@ pub fn output_of<E: Engine>(alloc: Global, form: Form, bytes: &[u8]) -> Result<V
 
 /// The command lines of a document whose policy is accepted, where they stand.
 pub fn read_accepted<'a>(alloc: Global, bytes: &'a [u8]) -> Result<Script<'a>, Refused>
-    requires { length bytes.now ≤ 4194304 }
+    requires { length bytes.now ≤ most_document }
     ensures policy { OnOk result (HasSomePolicy bytes.now) }
     ensures says { IfOk result (λ d. document_read accepted bytes.now ≡ Ok (lines_spelled d)) }
     ensures err { IfErr result (λ r. IsRefused r bytes.now) }
@@ -57,7 +58,7 @@ fn read_checked(alloc: Global, bytes: &[u8]) -> Result<Checked, Refused>
 
 /// The command lines of a document whose policy is accepted.
 fn read_lines<'a>(alloc: Global, bytes: &'a [u8]) -> Result<Script<'a>, Refused>
-    requires few { length bytes.now ≤ 4194304 }
+    requires few { length bytes.now ≤ most_document }
     requires policy { HasSomePolicy bytes.now }
     ensures ok { IfOk result (λ d. document_read accepted bytes.now ≡ Ok (lines_spelled d)) }
     ensures err { IfErr result (λ r. IsRefused r bytes.now) }

@@ -2,10 +2,12 @@
 
 ghost use Rattle.std.specs.Prelude.{◌≡◌, ◌≤◌, map, option_and_then, string_bytes, IfSome, Some};
 ghost use Rattle.ucon_model.specs.Document.{number_spelled};
+ghost use Rattle.ucon_model.specs.Limits.{most_generated};
 ghost use Rattle.ucon_top.specs.Form.{HasSize, asks_for_threads, audit_form, explain_form, form_of, gen_form, journal_form, seed_of, size_of, word_form};
 
 use ucon_audit::Kept;
 use ucon_base::Name;
+use ucon_model::limits::MOST_GENERATED;
 use ucon_reply::name_in;
 use ucon_script::number_spelled;
 
@@ -54,9 +56,6 @@ impl Form {
         matches!(self, Form::Serve | Form::Board | Form::Live)
     }
 }
-
-/// The most lines of a generated document, behind its opening ones.
-const MOST_LINES: u128 = 100_000;
 
 /// The form that these words are. None where they are none.
 pub fn read_form(words: &[String]) -> Option<Form>
@@ -196,10 +195,10 @@ fn read_seed(spelling: &[u8]) -> Option<u64>
 /// A number of lines, from 1 on.
 fn read_size(spelling: &[u8]) -> Option<u32>
     ensures number { result ≡ option_and_then size_of (number_spelled spelling.now) }
-    ensures small { IfSome result (λ n. n ≤ 100000) }
+    ensures small { IfSome result (λ n. n ≤ most_generated) }
 {
-    match number_spelled(spelling, MOST_LINES + 1) {
-        Some(n) if n >= 1 && n <= MOST_LINES => Some(n as u32),
+    match number_spelled(spelling, MOST_GENERATED as u128 + 1) {
+        Some(n) if n >= 1 && n <= MOST_GENERATED as u128 => Some(n as u32),
         _ => None,
     }
 }

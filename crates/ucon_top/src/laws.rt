@@ -5,6 +5,7 @@ ghost use Rattle.ucon_model.specs.declared.command.Entry.{Entry};
 ghost use Rattle.ucon_model.specs.Generated.{generated};
 ghost use Rattle.ucon_model.specs.History.{History};
 ghost use Rattle.ucon_model.specs.LegalRun.{Answered};
+ghost use Rattle.ucon_model.specs.Limits.{most_generated};
 ghost use Rattle.ucon_model.specs.Plain.{Bytes, PlainPolicy};
 ghost use Rattle.ucon_model.specs.StoredRun.{LeadsTo};
 ghost use Rattle.ucon_store.specs.Found.{IsFoundAs};
@@ -19,7 +20,7 @@ use ucon_syntax::{
 
 /// A generated document is always accepted: its policy is one and well typed, and its script is never refused.
 pub fn generated_documents_are_accepted()
-    ensures { (seed size : ℕ) → size ≤ 100000 → IsAccepted (generated seed size) }
+    ensures { (seed size : ℕ) → size ≤ most_generated → IsAccepted (generated seed size) }
 {
     generated_documents_are_read();
     readings_are_what_texts_spell();

@@ -7,6 +7,7 @@ ghost use Rattle.ucon_model.specs.Action.{Trace};
 ghost use Rattle.ucon_model.specs.Document.{policy_part};
 ghost use Rattle.ucon_model.specs.History.{History};
 ghost use Rattle.ucon_model.specs.LegalRun.{Answered, own_answers};
+ghost use Rattle.ucon_model.specs.Limits.{most_clients};
 ghost use Rattle.ucon_model.specs.Plain.{Bytes, PlainPolicy};
 ghost use Rattle.ucon_script.specs.Coming.{HasOpened};
 ghost use Rattle.ucon_syntax.specs.Policies.{accepted};
@@ -154,7 +155,7 @@ fn end_lived<E: Engine, K: Sink, D: Disk>(
     out: &mut K,
 ) -> Ended<D>
     requires all { lived.short ≡ None → Each IsAnswered lived.parts.items }
-    requires clients { lived.short ≡ None → Each (λ t. t.line.caller.0 < 64) (told_in lived.parts.items) }
+    requires clients { lived.short ≡ None → Each (λ t. t.line.caller.0 < most_clients) (told_in lived.parts.items) }
     ensures status { result.status ≡ status_of result.outcome }
     ensures sink { IsCounted result.outcome Outcome.SinkFault (K.seen out.old).faults (K.seen out.new).faults }
     ensures unwritten { IsOfMemory result.outcome → out.new ≡ out.old }

@@ -3,6 +3,7 @@
 ghost use Rattle.std.specs.Prelude.{◌≡◌, ◌⊎◌, ◌≤◌, false, length, map, Some, None};
 ghost use Rattle.ucon_disk.specs.Causes.{raised};
 ghost use Rattle.ucon_model.specs.LegalRun.{in_text_order};
+ghost use Rattle.ucon_model.specs.Limits.{most_document};
 ghost use Rattle.ucon_model.specs.Plain.{PlainPolicy};
 ghost use Rattle.ucon_syntax.specs.Policies.{accepted};
 ghost use Rattle.ucon_top.specs.Closing.{IsClosedRun, IsOfRun, IsWritten};
@@ -29,7 +30,7 @@ pub fn play<E: Engine, K: Sink, D: Disk>(
     out: &mut K,
     disk: D,
 ) -> Ended<D>
-    requires { length bytes.now ≤ 4194304 }
+    requires { length bytes.now ≤ most_document }
     ensures status { result.status ≡ status_of result.outcome }
     ensures of_document { IsOfDocument result.outcome }
     ensures form { MayEnd Form.Play result.outcome }

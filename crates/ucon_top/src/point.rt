@@ -4,6 +4,7 @@ ghost use Rattle.std.specs.Prelude.{◌≡◌, ◌⊎◌, ◌≤◌, ◌+◌, fa
 ghost use Rattle.ucon_disk.specs.Causes.{raised};
 ghost use Rattle.ucon_disk.specs.Run.{LeavesAfter};
 ghost use Rattle.ucon_model.specs.Action.{Trace};
+ghost use Rattle.ucon_model.specs.Limits.{most_document};
 ghost use Rattle.ucon_model.specs.Plain.{PlainPolicy};
 ghost use Rattle.ucon_store.specs.Keeping.{GrowsFrom};
 ghost use Rattle.ucon_store.specs.Starts.{IsStart};
@@ -32,7 +33,7 @@ pub fn point<E: Engine, K: Sink, D: Disk>(
     out: &mut K,
     disk: D,
 ) -> Ended<D>
-    requires { length bytes.now ≤ 4194304 }
+    requires { length bytes.now ≤ most_document }
     ensures status { result.status ≡ status_of result.outcome }
     ensures of_document { IsOfDocument result.outcome }
     ensures refused { IsRefusedBy result.outcome bytes.now }

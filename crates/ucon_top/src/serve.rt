@@ -6,6 +6,7 @@ ghost use Rattle.ucon_disk.specs.Causes.{raised};
 ghost use Rattle.ucon_model.specs.Action.{Trace};
 ghost use Rattle.ucon_model.specs.History.{History};
 ghost use Rattle.ucon_model.specs.LegalRun.{own_answers};
+ghost use Rattle.ucon_model.specs.Limits.{most_clients, most_document};
 ghost use Rattle.ucon_model.specs.Plain.{PlainPolicy};
 ghost use Rattle.ucon_syntax.specs.Policies.{accepted};
 ghost use Rattle.ucon_store.specs.Kept.{Kept};
@@ -51,7 +52,7 @@ pub fn serve<E: Engine + Send, K: Sink, D: Disk + Send, G: Gate + Sync, R: Threa
     disk: D,
     gate: &G,
 ) -> Ended<D>
-    requires short { length bytes.now ≤ 4194304 }
+    requires short { length bytes.now ≤ most_document }
     requires threads { asks_for_threads (Some form.now) ≡ true }
     ensures status { result.status ≡ status_of result.outcome }
     ensures of_document { IsOfDocument result.outcome }
@@ -137,7 +138,7 @@ pub(crate) fn end_served<E: Engine, K: Sink, D: Disk>(
     out: &mut K,
 ) -> Ended<D>
     requires all { Each IsAnswered parts.now }
-    requires clients { Each (λ t. t.line.caller.0 < 64) (told_in parts.now) }
+    requires clients { Each (λ t. t.line.caller.0 < most_clients) (told_in parts.now) }
     ensures status { result.status ≡ status_of result.outcome }
     ensures of_run { IsOfRun result.outcome }
     ensures run { (P : PlainPolicy) (opened : Kept D) → Stays D.seen opened store

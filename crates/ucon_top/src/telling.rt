@@ -7,6 +7,7 @@ ghost use Rattle.ucon_audit.specs.Report.{line_of, tree};
 ghost use Rattle.ucon_explain.specs.Text.{try_spelling};
 ghost use Rattle.ucon_journal.specs.Opened.{opened};
 ghost use Rattle.ucon_model.specs.Document.{policy_part};
+ghost use Rattle.ucon_model.specs.Limits.{most_document};
 ghost use Rattle.ucon_top.specs.Accepted.{HasSomePolicy};
 ghost use Rattle.ucon_top.specs.Ending.{IsCounted, IsOfAccepted, IsOfDocument, IsUntouched, IsUnwritten, MayEnd, status_of};
 ghost use Rattle.ucon_top.specs.Form.{TellsText};
@@ -38,7 +39,7 @@ pub fn tell<E: Engine, K: Sink, D: Disk, R: Threads + Sync>(
     out: &mut K,
     disk: D,
 ) -> Ended<D>
-    requires short { length bytes.now ≤ 4194304 }
+    requires short { length bytes.now ≤ most_document }
     requires tells { TellsText form }
     ensures status { result.status ≡ status_of result.outcome }
     ensures of_document { IsOfDocument result.outcome }

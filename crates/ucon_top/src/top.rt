@@ -2,6 +2,7 @@
 
 ghost use Rattle.std.specs.Prelude.{◌≡◌, ◌≤◌, ◌+◌, false, Some, length, IfOk, IfErr, IfSome, OnOk, true};
 ghost use Rattle.std.specs.Io.KnownBytes.{IsAtEnd};
+ghost use Rattle.ucon_model.specs.Limits.{most_document};
 ghost use Rattle.ucon_syntax.specs.Policies.{accepted};
 ghost use Rattle.ucon_top.specs.Ending.{status_of, IsCounted, IsOfAccepted, IsOfPrinting, IsUnwritten, MayEnd};
 ghost use Rattle.ucon_top.specs.Form.{asked, asks_for_threads, HasSize, IsAlone, ReadsWhole};
@@ -26,13 +27,11 @@ use ucon_cascade::Monitor;
 use ucon_client::Gate;
 use ucon_disk::Disk;
 use ucon_flow::{Sink, Source, read_all, write_all};
+use ucon_model::limits::MOST_DOCUMENT;
 use ucon_outcome::{Ended, Outcome};
 use ucon_script::generate;
 use ucon_store::opening_sees_one_thing;
 use ucon_syntax::accepted_texts_spell_typed_policies;
-
-/// The most bytes of input.
-const LIMIT: usize = 4_194_304;
 
 /// Does what the words say, from the bytes read to the bytes written.
 ///
@@ -122,7 +121,7 @@ pub fn run_alone<S: Source, K: Sink, D: Disk, R: Threads + Sync>(
 
 /// Writes what a form without a journal prints of the document that the bytes are, or the front of it where the sink fails.
 fn print_output<K: Sink>(alloc: Global, form: Form, bytes: &[u8], out: &mut K) -> Outcome
-    requires short { length bytes.now ≤ 4194304 }
+    requires short { length bytes.now ≤ most_document }
     requires alone { IsAlone form }
     ensures ends { IsOfPrinting result }
     ensures form { MayEnd form result }
@@ -201,17 +200,17 @@ fn live_input<S: Source, K: Sink, D: Disk + Send, G: Gate + Sync, R: Threads + W
 /// The document that a form runs: the input's bytes, or for `gen` the generated ones. Else how the run ends.
 fn document_bytes<S: Source>(alloc: Global, form: Form, input: &mut S) -> Result<Vec<u8>, Outcome>
     requires { HasSize form }
-    ensures short { IfOk result (λ bytes. length bytes.items ≤ 4194304) }
+    ensures short { IfOk result (λ bytes. length bytes.items ≤ most_document) }
     ensures bytes { IfOk result (λ bytes. IfSome (document_of form (S.seen input.old).left) (λ document. document ≡ bytes.items)) }
     ensures read { OnOk result (ReadsInput form → IsAtEnd (S.seen input.new).left) }
     ensures unfailed { OnOk result ((S.seen input.new).faults ≡ (S.seen input.old).faults) }
     ensures ends { IfErr result (λ outcome. IsUnread (S.seen input.old).left (S.seen input.old).faults (S.seen input.new).faults outcome) }
     ensures form { IfErr result (λ outcome. MayEnd form outcome) }
-    ensures reads { (S.seen input.new).reads ≤ (S.seen input.old).reads + 4194305 }
+    ensures reads { (S.seen input.new).reads ≤ (S.seen input.old).reads + (most_document + 1) }
     ensures unread { (ReadsInput form → ⊥) → input.new ≡ input.old }
 {
     match form {
         Form::Gen { seed, size } => Ok(generate(alloc, seed, size)?),
-        _ => Ok(read_all(alloc, input, LIMIT)?),
+        _ => Ok(read_all(alloc, input, MOST_DOCUMENT)?),
     }
 }
