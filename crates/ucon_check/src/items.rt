@@ -6,7 +6,7 @@ ghost use Rattle.std.specs.Str.{bytes_eq};
 ghost use Rattle.ucon_model.specs.Decision.{right_named};
 ghost use Rattle.ucon_model.specs.Readings.{declared_attr, declared_env};
 ghost use Rattle.ucon_model.specs.Views.{formula_of, test_of, predicate_of, update_of, right_of, policy_of};
-ghost use Rattle.ucon_model.specs.Typing.{has_lasts, is_recurring, counts_from_start, reads_wrongly, is_wrong_reader, item_fault};
+ghost use Rattle.ucon_model.specs.Typing.{name_if, has_lasts, is_recurring, counts_from_start, reads_wrongly, is_wrong_reader, item_fault};
 ghost use Rattle.ucon_model.specs.Typing.{attr_fault, env_fault, heading_fault, is_label_taken, predicate_fault, update_fault};
 ghost use Rattle.ucon_check.specs.Told.{Answers};
 
@@ -63,6 +63,12 @@ fn is_wrong_reader(p: &Predicate) -> bool
     reads_wrongly(&p.test) || (!p.is_ongoing() && counts_from_start(&p.test))
 }
 
+fn name_if(stood: bool, name: &Name) -> Option<Name>
+    ensures { result ≡ name_if stood name.now }
+{
+    if stood { Some(*name) } else { None }
+}
+
 /// What an item may be at fault for.
 #[derive(Clone, Copy)]
 struct Item {
@@ -114,7 +120,7 @@ pub fn check_attr(before: &[AttrDecl], item: u32, d: &AttrDecl) -> Result<(), Ch
 {
     let found = Item {
         number: item,
-        twice: is_attr(before, d.side, &d.name).then_some(d.name),
+        twice: name_if(is_attr(before, d.side, &d.name), &d.name),
         unknown: None,
         is_wrong_reader: false,
         is_typed: is_typed_start(&d.kind, &d.start),
@@ -140,7 +146,7 @@ pub fn check_env(before: &[EnvDecl], item: u32, d: &EnvDecl) -> Result<(), Check
 {
     let found = Item {
         number: item,
-        twice: is_env(before, &d.name).then_some(d.name),
+        twice: name_if(is_env(before, &d.name), &d.name),
         unknown: None,
         is_wrong_reader: false,
         is_typed: is_typed_start(&d.kind, &d.start),
@@ -166,7 +172,7 @@ pub fn check_heading(before: &[Right], item: u32, r: &Right) -> Result<(), Check
 {
     let found = Item {
         number: item,
-        twice: is_right(before, &r.name).then_some(r.name),
+        twice: name_if(is_right(before, &r.name), &r.name),
         unknown: None,
         is_wrong_reader: false,
         is_typed: true,
@@ -203,7 +209,7 @@ pub fn check_predicate(
     let taken = is_label(before, &p.label) || is_no_right(p.label.bytes());
     let found = Item {
         number: item,
-        twice: taken.then_some(p.label),
+        twice: name_if(taken, &p.label),
         unknown: undeclared_in_test(policy, &p.test),
         is_wrong_reader: is_wrong_reader(p),
         is_typed: is_typed_test(policy, &p.test),
