@@ -347,17 +347,31 @@ def started(
     files = () if kept_open is None else (kept_open,)
     # The program has no handlers, and ends at each of these that isn't ignored; this process goes on until the program has ended.
     heard = [number for number in (signal.SIGINT, signal.SIGTERM, signal.SIGHUP) if signal.getsignal(number) != signal.SIG_IGN]
-    before = {number: signal.signal(number, lambda *_: None) for number in heard}
+    before = {number: signal.getsignal(number) for number in heard}
+    # One that comes while the program starts waits, here until it can be passed on, and there until it ends the program.
+    mask = signal.pthread_sigmask(signal.SIG_BLOCK, heard)
+
+    def unheard() -> None:
+        for number in heard:
+            signal.signal(number, signal.SIG_DFL)
+        signal.pthread_sigmask(signal.SIG_SETMASK, mask)
+
     try:
-        ran = subprocess.Popen(words, stdin=source, stdout=output, stderr=subprocess.PIPE if catches else None, pass_fds=files)
+        ran = subprocess.Popen(
+            words, stdin=source, stdout=output, stderr=subprocess.PIPE if catches else None, pass_fds=files, preexec_fn=unheard
+        )
 
         def pass_on(number: int, _: Optional[FrameType]) -> None:
-            ran.send_signal(number)
+            # A terminal gives Ctrl-C to the program, too.
+            if number != signal.SIGINT:
+                ran.send_signal(number)
 
-        for number in set(heard) & {signal.SIGTERM, signal.SIGHUP}:
+        for number in heard:
             signal.signal(number, pass_on)
+        signal.pthread_sigmask(signal.SIG_SETMASK, mask)
         errors = ran.communicate()[1] or b""
     finally:
         for number, handler in before.items():
             signal.signal(number, handler)
+        signal.pthread_sigmask(signal.SIG_SETMASK, mask)
     return Ended(program.ended_as(ran.returncode), errors)
