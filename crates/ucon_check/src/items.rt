@@ -83,8 +83,8 @@ struct Item {
 
 impl Item {
     /// The first of its four faults.
-    fn check(&self) -> Result<(), CheckFault>
-        ensures { Answers (item_fault self.now.number self.now.twice self.now.unknown self.now.is_wrong_reader self.now.is_typed) result }
+    fn check(self) -> Result<(), CheckFault>
+        ensures { Answers (item_fault self.number self.twice self.unknown self.is_wrong_reader self.is_typed) result }
     {
         if let Some(name) = self.twice {
             return Err(CheckFault::Twice(name, self.number));

@@ -1,6 +1,6 @@
 //! The sessions that are in lists, and the ends of each list. In what order the members of a list stand is kept by `Lists`.
 
-ghost use Rattle.std.specs.Prelude.{◌≡◌, ◌<◌, ◌≤◌, ℕ, length, None, Some, OnOk};
+ghost use Rattle.std.specs.Prelude.{◌≡◌, ◌<◌, ◌≤◌, ℕ, length, None, Some, OnOk, false, true};
 ghost use Rattle.std.specs.Option.{ForSome};
 ghost use Rattle.ucon_collections.specs.Lists.{IsLed, IsNext, IsPrevious, ends_at, is_joined, leader_in, member_at, nobody, unjoined};
 ghost use Rattle.ucon_collections.specs.Table.{IsSound, after, before, gap_of, linked, marked, seen, unlinked, with_first, with_last, with_next};
