@@ -1,5 +1,5 @@
 -- Rights that stand first among the names, and each name once in a policy.
-use Rattle.std.proofs.Common.{◌≡◌, ◌∙◌, ◌+◌, ℕ, zero, suc, refl, sym, ap, subst, Bool, true, false, cond, List, [], ◌∷◌, ◌++◌, length, map, position, take, slice_get, Option, Some, None, is_none, is_some, option_map, unwrap_or, arith}
+use Rattle.std.proofs.Common.{◌≡◌, ◌∙◌, ◌+◌, ◌<◌, ◌≤◌, ℕ, zero, suc, refl, sym, ap, subst, Bool, true, false, cond, List, [], ◌∷◌, ◌++◌, length, map, position, take, slice_get, Option, Some, None, is_none, is_some, option_map, unwrap_or, arith}
 use Rattle.std.specs.Prelude.{IsTrue, not}
 use Rattle.std.specs.Option.{option_or}
 use Rattle.std.specs.Str.{bytes_eq}
@@ -168,3 +168,23 @@ stood_first P R name typed has none stand i r at = in_front R name r.name i (sta
 pub not_first : (rs : List Right) (names : List Bytes) (i : ℕ) (r : Right) → slice_get rs i ≡ Some r → (slice_get names i ≡ Some r.name → ⊥)
     → StandFirst (map right_of rs) names → ⊥
 not_first rs names i r at differs stand = differs (stand i (right_of r) (slice_get-map right_of rs i ∙ ap (option_map right_of) at))
+
+-- where other names stand than those of the rights, they don't: there are fewer names
+none_there : (names : List Bytes) (i : ℕ) (e : Bytes) → length names ≤ i → slice_get names i ≡ Some e → ⊥
+none_there [] i e less at = absurd cc
+none_there (x ∷ names) zero e less at = absurd (omega (arith, less))
+none_there (x ∷ names) (suc i) e less at = none_there names i e (omega (arith, less)) at
+
+pub too_few : (rs : List Right) (names : List Bytes) (i : ℕ) → i < length rs → length names ≤ i → StandFirst (map right_of rs) names → ⊥
+too_few [] names i there less stand = absurd (omega (arith, there))
+too_few (r ∷ rs) [] i there less stand = none_there [] zero r.name (omega arith) (stand zero (right_of r) refl)
+too_few (r ∷ rs) (x ∷ names) zero there less stand = absurd (omega (arith, less))
+too_few (r ∷ rs) (x ∷ names) (suc i) there less stand =
+    too_few rs names i (omega (arith, there)) (omega (arith, less)) (λ j q at. stand (suc j) q at)
+
+-- a name that differs from another isn't the same
+pub other_differs : (a b : Bytes) → not (bytes_eq a b) ≡ true → a ≡ b → ⊥
+other_differs a b h same =
+    let equal : bytes_eq a b ≡ true = ap (bytes_eq a) (sym same) ∙ own_name a in
+    let no : false ≡ true = sym (ap not equal) ∙ h in
+    absurd cc

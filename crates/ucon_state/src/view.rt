@@ -1,7 +1,7 @@
 //! What a state gives to read.
 
 ghost use Rattle.std.specs.Prelude.{◌≡◌, ◌<◌, ◌≤ℤ◌, IfSome, IsSome, IsTrue, None, Some, is_some, length, option_and_then, option_copied, option_map};
-ghost use Rattle.std.specs.Prelude.{slice_get, unwrap_or};
+ghost use Rattle.std.specs.Prelude.{◌+ℤ◌, slice_get, unwrap_or};
 ghost use Rattle.std.specs.List.{All};
 ghost use Rattle.ucon_model.specs.Checked.{checked_policy};
 ghost use Rattle.ucon_model.specs.Decision.{failing, right_named};
@@ -146,7 +146,7 @@ impl State {
                 Some(Value::Int(n)) => is_between(*low, *high, *n),
                 _ => false,
             },
-            Check::Lasts(n) => self.tables.tick.get() <= session.start.get() + n.get(),
+            Check::Lasts(n) => lasts(session.start, *n, self.tables.tick),
         }
     }
 
@@ -252,6 +252,14 @@ fn is_between(low: Int, high: Int, n: Int) -> bool
     ensures to { IsTrue result → n ≤ℤ high }
 {
     low.is_at_most(n) && n.is_at_most(high)
+}
+
+/// Whether a usage that started at a tick has gone on for at most so many ticks now.
+#[inline(always)]
+fn lasts(start: Int, most: Int, now: Int) -> bool
+    ensures { IsTrue result → now ≤ℤ (start +ℤ most) }
+{
+    now.get() <= start.get() + most.get()
 }
 
 /// The name that is given, or else this one.

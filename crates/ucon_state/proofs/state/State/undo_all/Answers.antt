@@ -9,8 +9,8 @@ use Rattle.ucon_state.specs.Views.{lists_of}
 use Rattle.ucon_state.proofs.Stages.{sound_alone}
 use Rattle.ucon_state.proofs.state.State.undo_all.Goals as goal
 
-pub invariant_of-self : goal.invariant_of-self
-invariant_of-self c =
+pub invariant_of-self-2 : goal.invariant_of-self-2
+invariant_of-self-2 c =
     let s = c.args.self.now in
     let R = right_names s in
     let Q = checked_policy c.undo_changes.new.planned.checked in
