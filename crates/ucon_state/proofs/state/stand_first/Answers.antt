@@ -30,16 +30,16 @@ returns-then-at-names c = (λ so. absurd cc, λ stand. absurd (no stand))
   where
     no : StandFirst (map right_of c.args.rights.now) c.args.names.now → ⊥
     no stand = elim c.then-at-names.branch [
-        then-at-names-via-then-at-names w ↦ too_few c.args.rights.now c.args.names.now c.loop-at.at c.loop-at-test.true w.if-at-names.true stand
+      | then-at-names-via-then-at-names w ↦ too_few c.args.rights.now c.args.names.now c.loop-at.at c.loop-at-test.true w.if-at-names.true stand
       | then-at-names-via-else-at-names+then-ne w ↦
-        let rs = c.args.rights.now in
-        let i = c.loop-at.at in
-        let r = w.index-rights-at.result in
-        let n = w.index-names-at.result in
-        let differs = other_differs n (get_or rs i r).name (sym w.ne.ensures ∙ w.if-ne.true) in
-        let there : slice_get c.args.names.now i ≡ Some n = slice_get-get_or c.args.names.now i n w.if-at-names.false ∙ ap (λ (e : Bytes). Some e) (sym w.index-names-at.is) in
-        not_first rs c.args.names.now i (get_or rs i r) (slice_get-get_or rs i r c.loop-at-test.true)
-            (λ at. differs (same_Some n (get_or rs i r).name (sym there ∙ at))) stand
+          let rs = c.args.rights.now in
+          let i = c.loop-at.at in
+          let r = w.index-rights-at.result in
+          let n = w.index-names-at.result in
+          let differs = other_differs n (get_or rs i r).name (sym w.ne.ensures ∙ w.if-ne.true) in
+          let there : slice_get c.args.names.now i ≡ Some n = slice_get-get_or c.args.names.now i n w.if-at-names.false ∙ ap (λ (e : Bytes). Some e) (sym w.index-names-at.is) in
+          not_first rs c.args.names.now i (get_or rs i r) (slice_get-get_or rs i r c.loop-at-test.true)
+          (λ at. differs (same_Some n (get_or rs i r).name (sym there ∙ at))) stand
     ]
 
 pub returns : goal.returns
