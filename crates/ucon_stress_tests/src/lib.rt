@@ -7,6 +7,8 @@ mod crashes;
 #[cfg(test)]
 mod engines;
 #[cfg(test)]
+mod live_rows;
+#[cfg(test)]
 mod living;
 #[cfg(test)]
 mod looking;

@@ -2,6 +2,7 @@
 
 ghost use Rattle.std.specs.Prelude.{◌≤◌, length};
 
+use crate::live_rows::{LIVE_ROWS, LiveRow};
 use crate::runs::{End, over, played, stopping};
 use std::alloc::Global;
 use std::sync::Wait;
@@ -13,9 +14,7 @@ use ucon_client::{Gate, OpenGate};
 use ucon_disk::MemDisk;
 use ucon_flow::{Failed, MemSink, MemSource, Source};
 use ucon_top::{Outcome, run};
-use ucon_vectors::{
-    AMENDED_ROWS, LIVE_ROWS, LiveRow, Row, TIMED_ROWS, WORKED_ROWS, document, repeated,
-};
+use ucon_vectors::{AMENDED_ROWS, Row, TIMED_ROWS, WORKED_ROWS, document, repeated};
 
 /// The most turns that a source waits.
 const TURNS: u32 = 10_000_000;

@@ -19,7 +19,6 @@ mod guide;
 mod hostile;
 mod journals;
 mod language;
-mod live;
 mod timed;
 mod typing;
 mod worked;
@@ -36,7 +35,6 @@ pub use journals::{
     Bytes, LOOKING, PLAYED_ROWS, POINTED_ROWS, Played, SUBJECTS_B_AND_C, WITH_A, WITH_A_AND_POINT,
 };
 pub use language::LANGUAGE_EXAMPLES;
-pub use live::{LIVE_ROWS, LiveRow};
 use std::alloc::{AllocError, Global};
 pub use timed::TIMED_ROWS;
 pub use typing::{TYPING_FAULTS, WELL_TYPED_POLICIES};
